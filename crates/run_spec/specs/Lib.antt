@@ -1,3 +1,8 @@
+pub mod PageSet
 pub mod Change
 pub mod History
 pub mod Logs
+pub mod Seen
+pub mod Good
+pub mod World
+pub mod Reply
