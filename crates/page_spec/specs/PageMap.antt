@@ -29,3 +29,7 @@ pub record Agree (before after : PageMap) (numbers : List ℕ) : Type 0 where
   pub same : (number : ℕ) → Contains numbers number → compared number (page_at before number) ≡ compared number (page_at after number)
   pub page_size : page_size_of before ≡ page_size_of after
   pub reserved : reserved_of before ≡ reserved_of after
+
+-- the page sizes that a database may have, in bytes
+abbrev pub page_sizes : List ℕ
+page_sizes = 512 ∷ 1024 ∷ 2048 ∷ 4096 ∷ 8192 ∷ 16384 ∷ 32768 ∷ 65536 ∷ []

@@ -4,5 +4,6 @@ pub mod History
 pub mod Logs
 pub mod Seen
 pub mod Good
+pub mod PageLines
 pub mod World
 pub mod Reply

@@ -11,6 +11,7 @@ use Rattle.run_spec.specs.declared.lines.Act.{Act}
 use Rattle.run_spec.specs.declared.lines.Act.TheVariants as act
 use Rattle.run_spec.specs.declared.lines.Told.{Told}
 use Rattle.run_spec.specs.declared.lines.Told.TheVariants as told
+use Rattle.run_spec.specs.PageLines.{image_of, with_image, read_text, write_text}
 use Rattle.run_spec.specs.Change.{Change, laid}
 use Rattle.run_spec.specs.PageSet.{with_page}
 use Rattle.run_spec.specs.History.{Commit, conflict}
@@ -50,25 +51,6 @@ pub record Outcome : Type 0 where
 -- a function with another value at one number
 abbrev pub changed_at : {A : Type 0} → (ℕ → A) → ℕ → A → ℕ → A
 changed_at f number value other = if other == number then value else f other
-
--- the image of a page among these, if it is there
-abbrev pub image_of : List PageImage → ℕ → Option (List ℕ)
-image_of [] page = None
-image_of (image ∷ images) page = if image.page == page then Some image.bytes else image_of images page
-
--- these images with one for this page: in the place of the one that is there, else at the end
-abbrev pub with_image : List PageImage → ℕ → List ℕ → List PageImage
-with_image [] page bytes = record { page = page; bytes = bytes } ∷ []
-with_image (image ∷ images) page bytes =
-    if image.page == page then record { page = page; bytes = bytes } ∷ images else image ∷ with_image images page bytes
-
--- the text of a read, as it is kept among a transaction's statements
-abbrev pub read_text : ℕ → List ℕ
-read_text page = codes "READ " ++ decimal page
-
--- the text of a write
-abbrev pub write_text : ℕ → ℕ → List ℕ
-write_text page byte = codes "WRITE " ++ decimal page ++ codes " " ++ decimal byte
 
 -- the map with this number
 abbrev pub map_number : World → ℕ → PageMap
