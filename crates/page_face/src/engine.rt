@@ -4,8 +4,8 @@ ghost use Rattle.page_spec.specs.PageMap.{PageMap, page_at, page_sizes};
 ghost use Rattle.run_spec.specs.declared.pins.Pin.{Pin};
 ghost use Rattle.run_spec.specs.Seen.{Seen, Found, Later, Begins, Ends, Accepts, Refuses, Checkpoints, Fails, OnlyFaults};
 ghost use Rattle.run_spec.specs.Logs.{told_logs};
-ghost use Rattle.run_spec.specs.Good.{RunsFrom};
-ghost use Rattle.page_face.specs.Pins.{IsLive, KeepsPins, AddsPin, TakesPin, HasSizes};
+ghost use Rattle.run_spec.specs.Good.{RunsFrom, HasSizes};
+ghost use Rattle.page_face.specs.Pins.{IsLive, KeepsPins, AddsPin, TakesPin};
 ghost use Rattle.page_face.specs.Prepared.{submitted, IsFit, IsGood};
 ghost use Rattle.page_face.specs.Fetch.{FetchedIn};
 
@@ -41,13 +41,16 @@ pub trait Engine<M: Means> {
     /// The names of the references that the engine holds.
     ghost loans: { Self → List ℕ };
 
-    /// The page size in bytes.
+    /// The page size in bytes, a legal one.
     fn page_size(&self) -> usize
-        ensures { result ≡ (seen self.now).page_size };
+        ensures value { result ≡ (seen self.now).page_size }
+        ensures legal { Contains page_sizes result };
 
-    /// How many bytes of a page are in use: the page size less the reserved bytes.
+    /// How many bytes of a page are in use, at least 480: the page size less the reserved bytes.
     fn usable(&self) -> usize
-        ensures { result ≡ (seen self.now).usable };
+        ensures value { result ≡ (seen self.now).usable }
+        ensures least { 480 ≤ result }
+        ensures most { result ≤ (seen self.now).page_size };
 
     /// Pins the newest map. It takes no memory and can't fail.
     fn begin(&mut self) -> Pin
@@ -129,11 +132,8 @@ pub trait Engine<M: Means> {
         ensures alone { alone self.old → alone self.new }
         ensures loans { loans self.new ≡ loans self.old };
 
-    /// The page size is a legal one, and at least 480 bytes of a page are in use.
-    ghost sizes: { (e : Self) → Contains page_sizes (seen e).page_size × (480 ≤ (seen e).usable) × ((seen e).usable ≤ (seen e).page_size) };
-
-    /// The newest map has as many pages as the engine says, all of its page size.
-    ghost newest_sizes: { (e : Self) (pages : PageMap) → (seen e).newest ≡ Option.Some pages
+    /// Where the engine stands for a run, the newest map has as many pages as it says, all of its page size.
+    ghost newest_sizes: { (e : Self) (first pages : PageMap) → begins e first → (seen e).newest ≡ Option.Some pages
         → HasSizes pages (seen e).size (seen e).page_size };
 
     /// So has the map of a pin that holds, which is told where the newest one is.

@@ -1,0 +1,1 @@
+// Laying a change over a map.
