@@ -1,6 +1,6 @@
 // Which page bars a commit.
 ghost use Rattle.std.specs.Prelude.{◌≡◌, ◌+◌, ◌<◌, ◌≤◌, ◌^◌, length, drop};
-ghost use Rattle.run_spec.specs.History.{counts, first_writer, conflict};
+ghost use Rattle.run_spec.specs.History.{counts, first_writer, conflict, lesser};
 
 use run_spec::{Commit, Mode};
 
@@ -53,7 +53,9 @@ pub fn find_conflict(
 }
 
 // Of a page with its commit and perhaps another, the one of the lesser page.
-fn least_of(page: u32, commit: u64, other: Option<(u32, u64)>) -> (u32, u64) {
+fn least_of(page: u32, commit: u64, other: Option<(u32, u64)>) -> (u32, u64)
+    ensures { Some result ≡ lesser (page, commit) other }
+{
     match other {
         Some(found) if found.0 < page => found,
         _ => (page, commit),

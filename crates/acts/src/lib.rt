@@ -2,7 +2,7 @@
 #![tactic(auto)]
 
 mod conflict;
-mod lay;
+
 mod plain;
 mod raw;
 mod shared_page;

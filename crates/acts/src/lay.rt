@@ -1,1 +1,0 @@
-// Laying a change over a map.
