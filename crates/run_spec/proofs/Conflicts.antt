@@ -82,7 +82,8 @@ Answers writer pages None = (q : ℕ) → Contains pages q → writer q ≡ None
 Answers writer pages (Some found) = Contains pages found.0 × (writer found.0 ≡ Some found.1)
     × ((q : ℕ) → Contains pages q → q < found.0 → writer q ≡ None)
 
-contains_more : {A : Type 0} (x y : A) (xs : List A) → Contains xs y → Contains (x ∷ xs) y
+-- a longer list has the elements of the others
+pub contains_more : {A : Type 0} (x y : A) (xs : List A) → Contains xs y → Contains (x ∷ xs) y
 contains_more x y xs c = (suc c.0, omega arith, c.2)
 
 none_more : (writer : ℕ → Option ℕ) (p : ℕ) (ps : List ℕ) (q bound : ℕ) → writer p ≡ None ⊎ bound ≤ p
