@@ -5,5 +5,6 @@ pub mod Logs
 pub mod Seen
 pub mod Good
 pub mod PageLines
+pub mod PageLineLaws
 pub mod World
 pub mod Reply
