@@ -72,3 +72,7 @@ pub record PlainRuns (sound : PageMap → Type 0) (leads : PageMap → List (Lis
   pub snaps : SnapsBefore 0 plain.history
   pub each : (n : ℕ) (pages : PageMap) → slice_get plain.maps n ≡ Some pages
     → sound pages × leads first (statements_of (take n plain.history)) pages
+
+-- the engine is whole, and these pins are of its maps
+abbrev pub PlainLive : PlainState → List Pin → Type 0
+PlainLive plain pins = IsPlain plain × All (Holds plain) pins

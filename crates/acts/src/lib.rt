@@ -3,6 +3,7 @@
 
 mod conflict;
 
+mod lay;
 mod plain;
 mod raw;
 mod shared_page;

@@ -1,5 +1,5 @@
 // An engine that keeps each of its page maps in memory.
-ghost use Rattle.std.specs.Prelude.{◌≡◌, ℕ, ◌+◌, ◌-◌, ◌^◌, ◌<◌, ◌≤◌, List, [], ◌∷◌, length, IfOk, All, Contains, slice_index};
+ghost use Rattle.std.specs.Prelude.{◌≡◌, ℕ, ◌+◌, ◌-◌, ◌^◌, ◌<◌, ◌≤◌, List, [], ◌∷◌, ◌++◌, length, IfOk, OnOk, OnErr, All, Contains, slice_index, nat_lt, if◌then◌else◌, map, MatchResult};
 ghost use Rattle.page_spec.specs.PageMap.{PageMap, page_at, page_size_of, page_sizes};
 ghost use Rattle.run_spec.specs.Good.{HasSizes};
 
@@ -31,4 +31,139 @@ impl<M> Model for Plain<M> {
     ghost view = { λ plain. record { page_size = plain.page_size; usable = plain.usable; maps = plain.maps.items; history = plain.history.items } };
 
     ghost invariant = { λ plain. IsPlain (record { page_size = plain.page_size; usable = plain.usable; maps = plain.maps.items; history = plain.history.items }) };
+}
+
+impl<M> Plain<M> {
+    ghost use Rattle.acts.specs.Plain.{PlainRuns};
+
+    /// An engine whose first map has these pages. The error is want of memory.
+    pub fn new(alloc: Global, pages: Vec<Bytes>) -> Result<Plain<M>, AllocError>
+        requires first { 0 < length pages.items }
+        requires few { length pages.items < 2 ^ 32 }
+        requires legal { Contains page_sizes (page_size_of pages.items) }
+        requires whole { All (λ page. length page ≡ page_size_of pages.items) pages.items }
+        ensures maps { IfOk result (λ plain. plain.maps ≡ pages.items ∷ []) }
+        ensures history { IfOk result (λ plain. plain.history ≡ []) }
+        ensures page_size { IfOk result (λ plain. plain.page_size ≡ page_size_of pages.items) }
+    {
+        let page_size = first_page(&pages).len();
+        let usable = usable_of(first_page(&pages));
+        let first = shared_pages(alloc, &pages)?;
+        let mut maps = Vec::new(alloc);
+        maps.push(first)?;
+        Ok(Plain {
+            alloc,
+            page_size,
+            usable,
+            maps,
+            history: Vec::new(alloc),
+            of: PhantomData,
+        })
+    }
+}
+
+// The first page.
+fn first_page(pages: &[Bytes]) -> &[u8]
+    requires { 0 < length pages.now }
+    ensures { result.now ≡ page_at pages.now 1 }
+{
+    pages[0].bytes()
+}
+
+// How many bytes of a page are in use, by the first page: all but the reserved ones, or all where that leaves too few.
+fn usable_of(first: &[u8]) -> usize
+    requires legal { Contains page_sizes (length first.now) }
+    ensures least { 480 ≤ result }
+    ensures most { result ≤ length first.now }
+    ensures value { result ≡ (if nat_lt (length first.now - slice_index first.now 20) 480 then length first.now else length first.now - slice_index first.now 20) }
+{
+    let usable = first.len() - first[20] as usize;
+    if usable < 480 { first.len() } else { usable }
+}
+
+// Pages that maps can share.
+fn shared_pages(alloc: Global, pages: &[Bytes]) -> Result<Items<SharedPage>, AllocError>
+    ensures { IfOk result (λ shared. shared ≡ pages.now) }
+{
+    let mut shared = Items::new(alloc);
+    for page in pages {
+        let bytes = Vec::from_slice(alloc, page.bytes())?;
+        shared.push(SharedPage::of(alloc, bytes)?)?;
+    }
+    Ok(shared)
+}
+
+impl<M: Means> Engine<M> for Plain<M> {
+    ghost use Rattle.acts.specs.Plain.{PlainRuns, plain_seen, PlainLive};
+    ghost use Rattle.acts.specs.PlainLaws.{newest_has_sizes, pinned_has_sizes, plain_tells, plain_bounds, plain_run};
+    ghost use Rattle.std.specs.Prelude.{slice_get};
+
+    ghost seen = { plain_seen };
+
+    ghost live = { PlainLive };
+
+    ghost map_at = { λ plain pin. slice_get plain.maps pin.n };
+
+    ghost begins = { λ plain first. PlainRuns (M.sound first) (M.leads first) first plain };
+
+    ghost may_begin = { λ plain. Unit {0} };
+
+    ghost free = { λ plain. Unit {0} };
+
+    ghost alone = { λ plain. Unit {0} };
+
+    ghost loans = { λ plain. [] };
+
+    ghost newest_sizes = { λ plain first pages runs told. newest_has_sizes plain pages runs.whole told };
+
+    ghost pinned_sizes = { pinned_has_sizes };
+
+    ghost tells = { plain_tells };
+
+    ghost bounds = { plain_bounds };
+
+    ghost run = { λ plain first runs. plain_run (M.sound first) (M.leads first) first plain runs };
+
+    ghost free_begins = { λ plain free. free };
+
+    fn page_size(&self) -> usize {
+        self.page_size
+    }
+
+    fn usable(&self) -> usize {
+        self.usable
+    }
+
+    fn begin(&mut self) -> Pin {
+        let n = self.history.len();
+        Pin {
+            n: n as u64,
+            size: self.maps[n].len() as u32,
+            lock: Lock::Part1,
+            generation: 0,
+            mark: 0,
+        }
+    }
+
+    fn fetch(&mut self, pin: &Pin, page: u32, buf: &mut [u8]) -> Result<(), FetchFault> {
+        let pages = &self.maps[pin.n as usize];
+        buf.copy_from_slice(pages.as_slice()[page as usize - 1].bytes());
+        Ok(())
+    }
+
+    fn ckpt(&mut self) -> Result<Ckpt, Failed> {
+        Ok(Ckpt::Idle)
+    }
+
+    fn logs(&mut self) -> Logs {
+        Logs {
+            current: 1,
+            frames: 0,
+            done: true,
+        }
+    }
+
+    fn end(&mut self, pin: Pin) {
+        let _ = pin;
+    }
 }

@@ -6,13 +6,13 @@ pub struct Raw;
 
 impl Means for Raw {
     ghost use Rattle.run_spec.specs.PageLines.{IsPageStore, PageLinesLead};
-    ghost use Rattle.run_spec.specs.PageLineLaws.{page_lines_rest, page_lines_join};
+    ghost use Rattle.run_spec.specs.PageLineLaws.{rests as lines_rest, joins as lines_join};
 
     ghost sound = { λ first pages. IsPageStore pages };
 
     ghost leads = { λ first before said after. PageLinesLead before said after };
 
-    ghost rests = { λ first pages sound. page_lines_rest pages };
+    ghost rests = { λ first pages sound. lines_rest pages };
 
-    ghost joins = { λ first before between after some others one two. page_lines_join before between after some others one two };
+    ghost joins = { λ first before between after some others one two. lines_join before between after some others one two };
 }
