@@ -1,12 +1,11 @@
 -- The computed conflict is the conflict that is defined, and there is none exactly where none is computed.
-use Rattle.std.proofs.Common.{◌≡◌, ℕ, ◌+◌, ◌-◌, ◌<◌, ◌≤◌, Bool, true, false, ◌||◌, cond, eqb, ltb, List, [], ◌∷◌, ◌++◌, length, get_or, take, drop, Option, Some, None, refl, sym, subst, ap, ◌∙◌, inl, inr, zero, suc, arith, rules}
+use Rattle.std.proofs.Common.{◌≡◌, ℕ, ◌+◌, ◌<◌, ◌≤◌, Bool, true, false, ◌||◌, cond, ltb, List, [], ◌∷◌, ◌++◌, length, take, drop, Option, Some, None, refl, sym, subst, ap, ◌∙◌, inl, inr, zero, suc, arith}
 use Rattle.std.specs.Prelude.{Contains, ◌⊎◌}
-use Rattle.std.specs.List.{list_any}
 use Rattle.std.proofs.lemmas.List.{take-append-drop, drop_at, length-take-le, length-drop, append_assoc, length-append, drop-append-le}
 use Rattle.std.proofs.lemmas.List.Folds.{list_any-append}
 use Rattle.std.proofs.lemmas.Bool.{cases_order, ltb-true, ltb-false, or_parts}
 use Rattle.run_spec.specs.declared.commits.Mode.{Mode}
-use Rattle.run_spec.specs.History.{Commit, counts, is_written, IsConflict, NoConflict, first_writer, lesser, with_page, conflict}
+use Rattle.run_spec.specs.History.{Commit, counts, is_written, IsConflict, NoConflict, first_writer, with_page, conflict}
 
 -- an element of a longer list is its first or one of the others
 pub contains_cases : {A : Type 0} (x y : A) (xs : List A) → Contains (x ∷ xs) y → (x ≡ y) ⊎ Contains xs y
@@ -61,19 +60,28 @@ writer mode page number (commit ∷ commits) k is =
   where
     later : counts mode page commit ≡ false → Writer mode page (number + 1) commits k → Writer mode page number (commit ∷ commits) k
     later other w = record {
-        before = commit ∷ w.before; commit = w.commit; after = w.after;
-        parts = ap (λ (rest : List Commit). commit ∷ rest) w.parts;
-        number_is = (let e = w.number_is in omega arith);
-        wrote = w.wrote;
-        first = rw other w.first }
+      before = commit ∷ w.before;
+      commit = w.commit;
+      after = w.after;
+      parts = ap (λ (rest : List Commit). commit ∷ rest) w.parts;
+      number_is = (let e = w.number_is in omega arith);
+      wrote = w.wrote;
+      first = rw other w.first;
+    }
+
     by_test : (test : Bool) → counts mode page commit ≡ test
         → cond test (Some (number + 1)) (first_writer mode page (number + 1) commits) ≡ Some k
         → (first_writer mode page (number + 1) commits ≡ Some k → Writer mode page (number + 1) commits k)
         → Writer mode page number (commit ∷ commits) k
     by_test true counted is others = record {
-        before = []; commit = commit; after = commits; parts = refl;
-        number_is = (let e : number + 1 ≡ k = cc in omega arith);
-        wrote = counted; first = refl }
+      before = [];
+      commit = commit;
+      after = commits;
+      parts = refl;
+      number_is = (let e : number + 1 ≡ k = cc in omega arith);
+      wrote = counted;
+      first = refl;
+    }
     by_test false other is others = later other (others is)
 
 -- what the conflict among these pages says, of the first writers
@@ -90,8 +98,9 @@ none_more : (writer : ℕ → Option ℕ) (p : ℕ) (ps : List ℕ) (q bound : �
     → ((r : ℕ) → Contains ps r → r < bound → writer r ≡ None) → Contains (p ∷ ps) q → q < bound → writer q ≡ None
 none_more writer p ps q bound first others c l =
     elim (contains_cases p q ps c) [
-      inl e ↦ elim first [ inl is ↦ cc | inr past ↦ absurd (omega arith) ]
-      | inr there ↦ others q there l ]
+      | inl e ↦ elim first [ inl is ↦ cc | inr past ↦ absurd (omega arith) ]
+      | inr there ↦ others q there l
+    ]
 
 answers_more : (writer : ℕ → Option ℕ) (p : ℕ) (ps : List ℕ) (o : Option ℕ) → writer p ≡ o → (r : Option (ℕ × ℕ))
     → Answers writer ps r → Answers writer (p ∷ ps) (with_page p o r)
@@ -109,9 +118,11 @@ answers_more writer p ps (Some k) is (Some other) a = by_test (ltb other.0 p) re
         let below = ltb-true other.0 p below in
         (contains_more p other.0 ps a.0, a.1, λ q c l. none_more writer p ps q other.0 (inr (omega arith)) a.2 c l)
     by_test false above =
-        let above = ltb-false other.0 p above in
-        ((zero, omega arith, refl), is,
-          λ q c l. none_more writer p ps q p (inr (omega arith)) (λ r d m. a.2 r d (omega arith)) c l)
+        let above = ltb-false other.0 p above in (
+          (zero, omega arith, refl),
+          is,
+          λ q c l. none_more writer p ps q p (inr (omega arith)) (λ r d m. a.2 r d (omega arith)) c l,
+        )
 
 answers : (mode : Mode) (reads : List ℕ) (n : ℕ) (history : List Commit)
     → Answers (λ q. first_writer mode q n (drop n history)) reads (conflict mode reads n history)
@@ -119,7 +130,7 @@ unfolding Answers
 answers mode [] n history = λ q c. absurd (omega (arith, c.1))
 answers mode (page ∷ pages) n history =
     answers_more (λ q. first_writer mode q n (drop n history)) page pages (first_writer mode page n (drop n history)) refl
-      (conflict mode pages n history) (answers mode pages n history)
+    (conflict mode pages n history) (answers mode pages n history)
 
 answers_none : (writer : ℕ → Option ℕ) (pages : List ℕ) (r : Option (ℕ × ℕ)) → Answers writer pages r → r ≡ None
     → (q : ℕ) → Contains pages q → writer q ≡ None
@@ -160,24 +171,25 @@ pub no_conflict : (mode : Mode) (reads : List ℕ) (n : ℕ) (history : List Com
     → NoConflict mode reads n history
 no_conflict mode reads n history is q there =
     not_written mode q n (drop n history)
-      (answers_none (λ q. first_writer mode q n (drop n history)) reads (conflict mode reads n history)
-        (answers mode reads n history) is q there)
+    (answers_none (λ q. first_writer mode q n (drop n history)) reads (conflict mode reads n history)
+    (answers mode reads n history) is q there)
 
 -- none is computed where there is none
 pub conflict_none : (mode : Mode) (reads : List ℕ) (n : ℕ) (history : List Commit) → NoConflict mode reads n history
     → conflict mode reads n history ≡ None
 conflict_none mode reads n history none =
     answers_no (λ q. first_writer mode q n (drop n history)) reads (conflict mode reads n history) (answers mode reads n history)
-      (λ q there. no_writer mode q n (drop n history) (none q there))
+    (λ q there. no_writer mode q n (drop n history) (none q there))
 
 -- the commits from a snapshot on that have one of them
 split : {A : Type 0} (n : ℕ) (xs : List A) (before : List A) (x : A) (after : List A) → drop n xs ≡ before ++ x ∷ after
     → (xs ≡ (take n xs ++ before) ++ x ∷ after) × (length (take n xs ++ before) ≡ n + length before)
 split n xs before x after is =
     let e = ap length is in
-    let within : n ≤ length xs = omega (arith, length-drop n xs, length-append before (x ∷ after)) in
-    ( sym (take-append-drop n xs) ∙ (ap (λ rest. take n xs ++ rest) is ∙ sym (append_assoc (take n xs) before (x ∷ after)))
-    , length-append (take n xs) before ∙ ap (λ k. k + length before) (length-take-le n xs within))
+    let within : n ≤ length xs = omega (arith, length-drop n xs, length-append before (x ∷ after)) in (
+      sym (take-append-drop n xs) ∙ (ap (λ rest. take n xs ++ rest) is ∙ sym (append_assoc (take n xs) before (x ∷ after))),
+      length-append (take n xs) before ∙ ap (λ k. k + length before) (length-take-le n xs within),
+    )
 
 split_within : {A : Type 0} (n : ℕ) (xs : List A) (before : List A) (x : A) (after : List A) → drop n xs ≡ before ++ x ∷ after
     → n ≤ length xs
@@ -190,30 +202,33 @@ pub is_conflict : (mode : Mode) (reads : List ℕ) (n : ℕ) (history : List Com
 unfolding Answers
 is_conflict mode reads n history page number is =
     let a = answers_some (λ q. first_writer mode q n (drop n history)) reads (conflict mode reads n history) page number
-      (answers mode reads n history) is in
+    (answers mode reads n history) is in
     let w = writer mode page n (drop n history) number a.1 in
     let parts = split n history w.before w.commit w.after w.parts in
     record {
-      before = take n history ++ w.before; commit = w.commit; after = w.after;
+      before = take n history ++ w.before;
+      commit = w.commit;
+      after = w.after;
       parts = parts.0;
       number_is = (let e = w.number_is in let f = parts.1 in omega arith);
       later = (let f = parts.1 in omega arith);
       read = a.0;
       wrote = w.wrote;
       first = rw (drop_at (take n history) w.before n (length-take-le n history (split_within n history w.before w.commit w.after w.parts))) w.first;
-      least = λ q there below. not_written mode q n (drop n history) (a.2 q there below) }
+      least = λ q there below. not_written mode q n (drop n history) (a.2 q there below);
+    }
 
 -- a conflict is what is computed
 pub conflict_is : (mode : Mode) (reads : List ℕ) (n : ℕ) (history : List Commit) (page number : ℕ)
     → IsConflict mode reads n history page number → conflict mode reads n history ≡ Some (page, number)
 conflict_is mode reads n history page number c =
     let rest : drop n history ≡ drop n c.before ++ c.commit ∷ c.after =
-      ap (drop n) c.parts ∙ drop-append-le n c.before (c.commit ∷ c.after) c.later in
+    ap (drop n) c.parts ∙ drop-append-le n c.before (c.commit ∷ c.after) c.later in
     let at : n + length (drop n c.before) + 1 ≡ number = (let e = c.number_is in let l = c.later in omega (arith, length-drop n c.before)) in
     let wrote : first_writer mode page n (drop n history) ≡ Some number =
-      ap (first_writer mode page n) rest ∙ (writer_at mode page n (drop n c.before) c.commit c.after c.first c.wrote ∙ ap Some at) in
+    ap (first_writer mode page n) rest ∙ (writer_at mode page n (drop n c.before) c.commit c.after c.first c.wrote ∙ ap Some at) in
     answers_are (λ q. first_writer mode q n (drop n history)) reads (conflict mode reads n history) page number
-      (answers mode reads n history) c.read wrote (λ q there below. no_writer mode q n (drop n history) (c.least q there below))
+    (answers mode reads n history) c.read wrote (λ q there below. no_writer mode q n (drop n history) (c.least q there below))
 
 or-false : (b : Bool) → (b || false) ≡ b
 or-false true = refl

@@ -1,6 +1,6 @@
 -- Laws of a set of page numbers: what it has, its order, and where a page comes to stand.
-use Rattle.std.proofs.Common.{◌≡◌, ℕ, ◌+◌, ◌<◌, ◌≤◌, List, [], ◌∷◌, ◌++◌, length, get_or, take, drop, zero, suc, refl, sym, subst, ap, ◌∙◌, inl, inr, arith, add-one, eq-eqb}
-use Rattle.std.specs.Prelude.{Contains, ◌⊎◌}
+use Rattle.std.proofs.Common.{◌≡◌, ℕ, ◌<◌, ◌≤◌, List, [], ◌∷◌, length, get_or, zero, suc, refl, sym, subst, ap, ◌∙◌, inl, inr, arith, add-one, eq-eqb}
+use Rattle.std.specs.Prelude.{Contains, ◌⊎◌, ◌↔◌}
 use Rattle.std.specs.List.{insert}
 use Rattle.std.specs.List.Sorted.{IsStrictlyIncreasing}
 use Rattle.std.proofs.lemmas.Bool.{cases_order, ne_eqb, lt-ltb, le-ltb}
@@ -22,39 +22,58 @@ with_after first pages page above = rw (ne_eqb page first (λ e. omega arith), l
 pub with_has : (pages : List ℕ) (page : ℕ) → Contains (with_page pages page) page
 with_has [] page = (zero, omega arith, refl)
 with_has (first ∷ pages) page = elim (cases_order page first) [
-    inl same ↦ subst (λ (set : List ℕ). Contains set page) (sym (with_same first pages page same)) (zero, omega arith, sym same)
-    | inr (inl below) ↦
+  | inl same ↦ subst (λ (set : List ℕ). Contains set page) (sym (with_same first pages page same)) (zero, omega arith, sym same)
+  | inr (inl below) ↦
       subst (λ (set : List ℕ). Contains set page) (sym (with_before first pages page below)) (zero, omega arith, refl)
-    | inr (inr above) ↦
+  | inr (inr above) ↦
       subst (λ (set : List ℕ). Contains set page) (sym (with_after first pages page above))
-        (contains_more first page (with_page pages page) (with_has pages page)) ]
+      (contains_more first page (with_page pages page) (with_has pages page))
+]
 
 pub with_keeps : (pages : List ℕ) (page q : ℕ) → Contains pages q → Contains (with_page pages page) q
 with_keeps [] page q there = absurd (omega (arith, there.1))
 with_keeps (first ∷ pages) page q there = elim (cases_order page first) [
-    inl same ↦ subst (λ (set : List ℕ). Contains set q) (sym (with_same first pages page same)) there
-    | inr (inl below) ↦
+  | inl same ↦ subst (λ (set : List ℕ). Contains set q) (sym (with_same first pages page same)) there
+  | inr (inl below) ↦
       subst (λ (set : List ℕ). Contains set q) (sym (with_before first pages page below))
-        (contains_more page q (first ∷ pages) there)
-    | inr (inr above) ↦
+      (contains_more page q (first ∷ pages) there)
+  | inr (inr above) ↦
       subst (λ (set : List ℕ). Contains set q) (sym (with_after first pages page above))
-        (elim (contains_cases first q pages there) [
-          inl e ↦ (zero, omega arith, e)
-          | inr later ↦ contains_more first q (with_page pages page) (with_keeps pages page q later) ]) ]
+      (elim (contains_cases first q pages there) [
+        | inl e ↦ (zero, omega arith, e)
+        | inr later ↦ contains_more first q (with_page pages page) (with_keeps pages page q later)
+      ])
+]
 
 -- and no others
 pub with_cases : (pages : List ℕ) (page q : ℕ) → Contains (with_page pages page) q → (q ≡ page) ⊎ Contains pages q
 with_cases [] page q there = elim (contains_cases page q [] there) [ inl e ↦ inl (sym e) | inr none ↦ inr none ]
 with_cases (first ∷ pages) page q there = elim (cases_order page first) [
-    inl same ↦ inr (subst (λ (set : List ℕ). Contains set q) (with_same first pages page same) there)
-    | inr (inl below) ↦
+  | inl same ↦ inr (subst (λ (set : List ℕ). Contains set q) (with_same first pages page same) there)
+  | inr (inl below) ↦
       (elim (contains_cases page q (first ∷ pages) (subst (λ (set : List ℕ). Contains set q) (with_before first pages page below) there)) [
-        inl e ↦ inl (sym e) | inr others ↦ inr others ])
-    | inr (inr above) ↦
+        | inl e ↦ inl (sym e)
+        | inr others ↦ inr others
+      ])
+  | inr (inr above) ↦
       (elim (contains_cases first q (with_page pages page) (subst (λ (set : List ℕ). Contains set q) (with_after first pages page above) there)) [
-        inl e ↦ inr (zero, omega arith, e)
+        | inl e ↦ inr (zero, omega arith, e)
         | inr others ↦ elim (with_cases pages page q others) [
-          inl same ↦ inl same | inr later ↦ inr (contains_more first q pages later) ] ]) ]
+          | inl same ↦ inl same
+          | inr later ↦ inr (contains_more first q pages later)
+        ]
+      ])
+]
+
+-- what the set with a page has, in one
+pub contains_with : (pages : List ℕ) (page q : ℕ) → Contains (with_page pages page) q ↔ ((q ≡ page) ⊎ Contains pages q)
+contains_with pages page q = (
+  with_cases pages page q,
+  λ one. elim one [
+    | inl same ↦ subst (Contains (with_page pages page)) (sym same) (with_has pages page)
+    | inr there ↦ with_keeps pages page q there
+  ],
+)
 
 -- a set with a first element that is below it rises
 rises_more : (first : ℕ) (pages : List ℕ) → (0 < length pages → first < get_or pages 0 0) → IsStrictlyIncreasing pages
@@ -73,23 +92,25 @@ below_with : (pages : List ℕ) (page bound : ℕ) → bound < page → (0 < len
     → bound < get_or (with_page pages page) 0 0
 below_with [] page bound past below = past
 below_with (first ∷ pages) page bound past below = elim (cases_order page first) [
-    inl same ↦ rw (with_same first pages page same) (below (omega arith))
-    | inr (inl least) ↦ rw (with_before first pages page least) past
-    | inr (inr above) ↦ rw (with_after first pages page above) (below (omega arith)) ]
+  | inl same ↦ rw (with_same first pages page same) (below (omega arith))
+  | inr (inl least) ↦ rw (with_before first pages page least) past
+  | inr (inr above) ↦ rw (with_after first pages page above) (below (omega arith))
+]
 
 -- a set stays in rising order
 pub with_rises : (pages : List ℕ) (page : ℕ) → IsStrictlyIncreasing pages → IsStrictlyIncreasing (with_page pages page)
 with_rises [] page rises = λ k within. absurd (omega arith)
 with_rises (first ∷ pages) page rises = elim (cases_order page first) [
-    inl same ↦ subst IsStrictlyIncreasing (sym (with_same first pages page same)) rises
-    | inr (inl below) ↦
+  | inl same ↦ subst IsStrictlyIncreasing (sym (with_same first pages page same)) rises
+  | inr (inl below) ↦
       subst IsStrictlyIncreasing (sym (with_before first pages page below))
-        (rises_more page (first ∷ pages) (λ some. below) rises)
-    | inr (inr above) ↦
+      (rises_more page (first ∷ pages) (λ some. below) rises)
+  | inr (inr above) ↦
       subst IsStrictlyIncreasing (sym (with_after first pages page above))
-        (rises_more first (with_page pages page)
-          (λ some. below_with pages page first above (λ more. rises zero (omega arith)))
-          (with_rises pages page (rises_rest first pages rises))) ]
+      (rises_more first (with_page pages page)
+      (λ some. below_with pages page first above (λ more. rises zero (omega arith)))
+      (with_rises pages page (rises_rest first pages rises)))
+]
 
 -- in a set that rises the first page is below the others
 first_below : (first : ℕ) (pages : List ℕ) (i : ℕ) → IsStrictlyIncreasing (first ∷ pages) → i < length pages
@@ -109,7 +130,7 @@ with_there (first ∷ pages) page zero rises within is = with_same first pages p
 with_there (first ∷ pages) page (suc i) rises within is =
     let below = first_below first pages i rises (omega arith) in
     with_after first pages page (omega arith)
-      ∙ ap (λ (rest : List ℕ). first ∷ rest) (with_there pages page i (rises_rest first pages rises) (omega arith) is)
+    ∙ ap (λ (rest : List ℕ). first ∷ rest) (with_there pages page i (rises_rest first pages rises) (omega arith) is)
 
 -- a page that isn't there comes behind the lesser ones
 pub with_new : (pages : List ℕ) (page at : ℕ) → at ≤ length pages → ((k : ℕ) → k < at → get_or pages k 0 < page)
@@ -119,5 +140,5 @@ with_new [] page (suc at) within below above = absurd (omega arith)
 with_new (first ∷ pages) page zero within below above = with_before first pages page (above zero (omega arith) (omega arith))
 with_new (first ∷ pages) page (suc at) within below above =
     with_after first pages page (below zero (omega arith))
-      ∙ ap (λ (rest : List ℕ). first ∷ rest)
-        (with_new pages page at (omega arith) (λ k l. below (suc k) (omega arith)) (λ k l m. above (suc k) (omega arith) (omega arith)))
+    ∙ ap (λ (rest : List ℕ). first ∷ rest)
+    (with_new pages page at (omega arith) (λ k l. below (suc k) (omega arith)) (λ k l m. above (suc k) (omega arith) (omega arith)))

@@ -21,10 +21,11 @@ rests pages = record { statements = []; texts = refl; pages = λ page low high. 
 pub joins : (before between after : PageMap) (some others : List (List ℕ)) → PageLinesLead before some between
     → PageLinesLead between others after → PageLinesLead before (some ++ others) after
 joins before between after some others first second = record {
-    statements = first.statements ++ second.statements;
-    texts = ap (λ (texts : List (List ℕ)). texts ++ others) first.texts
+  statements = first.statements ++ second.statements;
+  texts = ap (λ (texts : List (List ℕ)). texts ++ others) first.texts
       ∙ (ap (λ (texts : List (List ℕ)). map statement_text first.statements ++ texts) second.texts
-        ∙ sym (map-append statement_text first.statements second.statements));
-    pages = λ page low high. second.pages page low high
+      ∙ sym (map-append statement_text first.statements second.statements));
+  pages = λ page low high. second.pages page low high
       ∙ (ap (page_after page second.statements) (first.pages page low high)
-        ∙ sym (page_after-append page first.statements second.statements (page_at before page))) }
+      ∙ sym (page_after-append page first.statements second.statements (page_at before page)));
+}
