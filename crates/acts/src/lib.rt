@@ -6,6 +6,7 @@ mod conflict;
 mod lay;
 mod plain;
 mod raw;
+mod seats;
 mod shared_page;
 
 pub use plain::Plain;

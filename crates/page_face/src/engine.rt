@@ -55,8 +55,8 @@ pub trait Engine<M: Means> {
     /// Pins the newest map. It takes no memory and can't fail.
     fn begin(&mut self) -> Pin
         requires { may_begin self.old }
-        ensures begun { Found (alone self.old) (seen self.old) (λ mid. (after : Seen) × Begins mid result after
-            × Later (alone self.old) after (seen self.new) × (map_at self.new result ≡ mid.newest)) }
+        ensures begun { Found (alone self.old) (free self.old) (seen self.old) (λ mid. (after : Seen) × Begins mid result after
+            × Later (alone self.old) (free self.old) after (seen self.new) × (map_at self.new result ≡ mid.newest)) }
         ensures pins { AddsPin live map_at self.old result self.new }
         ensures runs { (first : PageMap) → begins self.old first → begins self.new first }
         ensures free { free self.old → free self.new }
@@ -69,7 +69,7 @@ pub trait Engine<M: Means> {
         requires page { (1 ≤ page) × (page ≤ pin.now.size) }
         requires room { length buf.old ≡ (seen self.old).page_size }
         ensures page { OnOk result (IfSome (map_at self.old pin.now) (λ pages. buf.new ≡ page_at pages page)) }
-        ensures cause { Found (alone self.old) (seen self.old) (λ mid. FetchedIn mid result (seen self.new)) }
+        ensures cause { Found (alone self.old) (free self.old) (seen self.old) (λ mid. FetchedIn mid result (seen self.new)) }
         ensures pins { KeepsPins live map_at self.old self.new }
         ensures runs { (first : PageMap) → begins self.old first → begins self.new first }
         ensures may_begin { may_begin self.old → may_begin self.new }
@@ -89,9 +89,9 @@ pub trait Engine<M: Means> {
         requires good { (first : PageMap) → begins self.old first
             → IfSome (map_at self.old pin.now) (λ snapshot. IsGood (M.sound first) (M.leads first) snapshot prepared) }
         ensures answer { MatchResult result
-            (λ receipt. Found (alone self.old) (seen self.old) (λ mid. Accepts mid (submitted prepared who) receipt (seen self.new)))
+            (λ receipt. Found (alone self.old) (free self.old) (seen self.old) (λ mid. Accepts mid (submitted prepared who) receipt (seen self.new)))
             (λ refusal. (refusal.1 ≡ prepared)
-                × Found (alone self.old) (seen self.old) (λ mid. Refuses mid (submitted prepared who) refusal.0 (seen self.new))) }
+                × Found (alone self.old) (free self.old) (seen self.old) (λ mid. Refuses mid (submitted prepared who) refusal.0 (seen self.new))) }
         ensures pins { KeepsPins live map_at self.old self.new }
         ensures runs { (first : PageMap) → begins self.old first → begins self.new first }
         ensures may_begin { may_begin self.old → may_begin self.new }
@@ -102,8 +102,8 @@ pub trait Engine<M: Means> {
     /// Takes one step of a checkpoint. After `Failed` the logs are as before, and the step may be taken again.
     fn ckpt(&mut self) -> Result<Ckpt, Failed>
         ensures answer { MatchResult result
-            (λ done. Found (alone self.old) (seen self.old) (λ mid. Checkpoints mid done (seen self.new)))
-            (λ _. Found (alone self.old) (seen self.old) (λ mid. Fails mid (seen self.new))) }
+            (λ done. Found (alone self.old) (free self.old) (seen self.old) (λ mid. Checkpoints mid done (seen self.new)))
+            (λ _. Found (alone self.old) (free self.old) (seen self.old) (λ mid. Fails mid (seen self.new))) }
         ensures pins { KeepsPins live map_at self.old self.new }
         ensures runs { (first : PageMap) → begins self.old first → begins self.new first }
         ensures may_begin { may_begin self.old → may_begin self.new }
@@ -113,7 +113,7 @@ pub trait Engine<M: Means> {
 
     /// Says how the logs stand.
     fn logs(&mut self) -> Logs
-        ensures answer { Found (alone self.old) (seen self.old) (λ mid. (result ≡ told_logs mid.logs) × (seen self.new ≡ mid)) }
+        ensures answer { Found (alone self.old) (free self.old) (seen self.old) (λ mid. (result ≡ told_logs mid.logs) × (seen self.new ≡ mid)) }
         ensures pins { KeepsPins live map_at self.old self.new }
         ensures runs { (first : PageMap) → begins self.old first → begins self.new first }
         ensures may_begin { may_begin self.old → may_begin self.new }
