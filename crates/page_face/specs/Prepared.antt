@@ -1,5 +1,5 @@
 -- What a transaction that is handed in has to be.
-use Rattle.std.specs.Prelude.{◌≡◌, ◌≢◌, ℕ, ◌≤◌, ◌<◌, List, [], length, Contains, All, slice_index, map, IsTrue}
+use Rattle.std.specs.Prelude.{◌≡◌, ℕ, ◌≤◌, List, [], length, All, map}
 use Rattle.page_spec.specs.PageMap.{PageMap}
 use Rattle.run_spec.specs.PageSet.{AreDifferent}
 use Rattle.run_spec.specs.declared.pins.Pin.{Pin}
@@ -13,14 +13,25 @@ use Rattle.page_face.specs.declared.prepared.Prepared.{Prepared}
 -- what the transaction changed
 abbrev pub change_in : {M : Type 0} → Prepared M → Change
 change_in prepared = record {
-    mode = prepared.mode; base = prepared.base; changed = prepared.changed; fresh = prepared.fresh; freed = prepared.freed;
-    tail = prepared.tail }
+  mode = prepared.mode;
+  base = prepared.base;
+  changed = prepared.changed;
+  fresh = prepared.fresh;
+  freed = prepared.freed;
+  tail = prepared.tail;
+}
 
 -- the transaction as a commit sees it
 abbrev pub submitted : {M : Type 0} → Prepared M → Who → Submitted
 submitted prepared who = record {
-    snap = prepared.snap; reads = prepared.reads; change = change_in prepared; said = prepared.said; wrote = prepared.wrote;
-    session = who.session; ordinal = who.ordinal }
+  snap = prepared.snap;
+  reads = prepared.reads;
+  change = change_in prepared;
+  said = prepared.said;
+  wrote = prepared.wrote;
+  session = who.session;
+  ordinal = who.ordinal;
+}
 
 -- What a commit asks of a transaction: it is of the pin's snapshot; the pages that it changed are different and of the snapshot,
 -- with all bytes of a page; a plain one has read page 1; and it makes and frees no page yet.

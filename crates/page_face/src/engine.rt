@@ -91,7 +91,7 @@ pub trait Engine<M: Means> {
         ensures answer { MatchResult result
             (λ receipt. Found (alone self.old) (free self.old) (seen self.old) (λ mid. Accepts mid (submitted prepared who) receipt (seen self.new)))
             (λ refusal. (refusal.1 ≡ prepared)
-                × Found (alone self.old) (free self.old) (seen self.old) (λ mid. Refuses mid (submitted prepared who) refusal.0 (seen self.new))) }
+            × Found (alone self.old) (free self.old) (seen self.old) (λ mid. Refuses mid (submitted prepared who) refusal.0 (seen self.new))) }
         ensures pins { KeepsPins live map_at self.old self.new }
         ensures runs { (first : PageMap) → begins self.old first → begins self.new first }
         ensures may_begin { may_begin self.old → may_begin self.new }

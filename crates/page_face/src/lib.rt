@@ -5,12 +5,10 @@
 //! view tells of a store.
 #![tactic(auto)]
 
-
 mod engine;
 mod means;
 mod prepared;
 mod read_set;
-
 
 pub use engine::Engine;
 pub use means::{Kept, Means};

@@ -3,7 +3,7 @@ use Rattle.std.proofs.Common.{◌≡◌, ℕ, ◌<◌, ◌≤◌, List, [], ◌�
 use Rattle.std.specs.Prelude.{Contains, ◌⊎◌, ◌↔◌}
 use Rattle.std.specs.List.{insert}
 use Rattle.std.specs.List.Sorted.{IsStrictlyIncreasing}
-use Rattle.std.proofs.lemmas.Bool.{cases_order, ne_eqb, lt-ltb, le-ltb}
+use Rattle.std.proofs.lemmas.Bool.{cases_eq, cases_order, ne_eqb, lt-ltb, le-ltb}
 use Rattle.run_spec.specs.PageSet.{with_page}
 use Rattle.run_spec.proofs.Conflicts.{contains_cases, contains_more}
 
@@ -110,6 +110,20 @@ with_rises (first ∷ pages) page rises = elim (cases_order page first) [
       (rises_more first (with_page pages page)
       (λ some. below_with pages page first above (λ more. rises zero (omega arith)))
       (with_rises pages page (rises_rest first pages rises)))
+]
+
+-- in a set that rises no page is below one before it
+pub rises_far : (pages : List ℕ) → IsStrictlyIncreasing pages → (i j : ℕ) → i ≤ j → j < length pages
+    → get_or pages i 0 ≤ get_or pages j 0
+rises_far pages rises i zero before within =
+    let same : i ≡ zero = omega arith in
+    rw same (omega arith)
+rises_far pages rises i (suc j) before within = elim (cases_eq i (suc j)) [
+  | inl same ↦ rw same (omega arith)
+  | inr apart ↦
+      (let step : get_or pages j 0 < get_or pages (suc j) 0 = rw (add-one j) at (rises j (omega arith)) in
+      let rest = rises_far pages rises i j (omega arith) (omega arith) in
+      omega arith)
 ]
 
 -- in a set that rises the first page is below the others
