@@ -8,7 +8,9 @@ use Rattle.run_spec.specs.declared.commits.Commit.{Commit}
 use Rattle.run_spec.specs.declared.commits.Mode.TheVariants as mode
 use Rattle.run_spec.specs.History.{counts, statements_of, SnapsBefore}
 use Rattle.run_spec.specs.Good.{HasSizes}
-use Rattle.run_spec.specs.Seen.{Seen}
+use Rattle.run_spec.specs.Change.{laid}
+use Rattle.run_spec.specs.Seen.{Seen, Submitted, commit_of}
+use Rattle.page_face.specs.declared.prepared.Prepared.{Prepared}
 
 -- what the engine holds: the page size and the bytes of a page in use, the maps, first the one at the start and then the one after
 -- each commit, and the commits
@@ -41,10 +43,9 @@ plain_seen plain = record {
     logs = None }
 
 -- A commit leads from one map to the next: the two agree on all pages that it doesn't count as having written, for a concurrent
--- transaction, and for a plain one it wrote page 1. Both have whole pages.
-pub record Follows (page_size : ℕ) (old : PageMap) (commit : Commit) (new : PageMap) : Type 0 where
-  pub agrees : (numbers : List ℕ) → ((q : ℕ) → Contains numbers q → (q ≤ length old) × (counts mode.Concurrent q commit ≡ false))
-    → Agree old new numbers
+-- transaction, and for a plain one it wrote page 1.
+pub record Follows (old : PageMap) (commit : Commit) (new : PageMap) : Type 0 where
+  pub agrees : (numbers : List ℕ) → ((q : ℕ) → Contains numbers q → counts mode.Concurrent q commit ≡ false) → Agree old new numbers
   pub first_page : counts mode.Plain 1 commit ≡ true
 
 -- The engine is whole: its sizes are legal, there is one map more than commits, all have whole pages, and each commit leads from
@@ -54,10 +55,10 @@ pub record IsPlain (plain : PlainState) : Type 0 where
   pub usable_least : 480 ≤ plain.usable
   pub usable_most : plain.usable ≤ plain.page_size
   pub count : length plain.maps ≡ length plain.history + 1
-  pub few : All (λ pages. length pages < 2 ^ 32) plain.maps
+  pub few : All (λ pages. (1 ≤ length pages) × (length pages < 2 ^ 32)) plain.maps
   pub whole : All (λ pages. HasSizes pages (length pages) plain.page_size) plain.maps
   pub chain : (k : ℕ) (old new : PageMap) (commit : Commit) → slice_get plain.maps k ≡ Some old
-    → slice_get plain.history k ≡ Some commit → slice_get plain.maps (k + 1) ≡ Some new → Follows plain.page_size old commit new
+    → slice_get plain.history k ≡ Some commit → slice_get plain.maps (k + 1) ≡ Some new → Follows old commit new
 
 -- The pin is of one of the maps.
 pub record Holds (plain : PlainState) (pin : Pin) : Type 0 where
@@ -76,3 +77,18 @@ pub record PlainRuns (sound : PageMap → Type 0) (leads : PageMap → List (Lis
 -- the engine is whole, and these pins are of its maps
 abbrev pub PlainLive : PlainState → List Pin → Type 0
 PlainLive plain pins = IsPlain plain × All (Holds plain) pins
+
+-- the engine after one more commit
+abbrev pub committed_state : PlainState → Submitted → PlainState
+committed_state plain asked = record plain {
+    maps = plain.maps ++ laid (newest_of plain) asked.change ∷ [];
+    history = plain.history ++ commit_of asked ∷ [] }
+
+-- The transaction may be laid over the newest map: it changes pages that are there, each whole, and makes none.
+pub record MayAdd {M : Type 0} (plain : PlainState) (prepared : Prepared M) : Type 0 where
+  pub whole : IsPlain plain
+  pub snap : prepared.snap ≤ length plain.history
+  pub in_range : All (λ image. (1 ≤ image.page) × (image.page ≤ length (newest_of plain))) prepared.changed
+  pub images : All (λ image. length image.bytes ≡ plain.page_size) prepared.changed
+  pub fresh : prepared.fresh ≡ []
+  pub freed : prepared.freed ≡ []

@@ -1,5 +1,5 @@
 -- What a transaction that is handed in has to be.
-use Rattle.std.specs.Prelude.{◌≡◌, ℕ, ◌≤◌, List, [], length, All, map}
+use Rattle.std.specs.Prelude.{Contains, ◌≡◌, ℕ, ◌≤◌, List, [], length, All, map}
 use Rattle.page_spec.specs.PageMap.{PageMap}
 use Rattle.run_spec.specs.PageSet.{AreDifferent}
 use Rattle.run_spec.specs.declared.pins.Pin.{Pin}
