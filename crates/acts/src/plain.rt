@@ -1,5 +1,5 @@
 // An engine that keeps each of its page maps in memory.
-ghost use Rattle.std.specs.Prelude.{◌≡◌, ℕ, ◌+◌, ◌-◌, ◌^◌, ◌<◌, ◌≤◌, List, [], ◌∷◌, ◌++◌, length, IfOk, OnOk, OnErr, IfErr, IfSome, MatchOption, true, vec_len, All, Contains, slice_index, nat_lt, if◌then◌else◌, map, MatchResult};
+ghost use Rattle.std.specs.Prelude.{◌≡◌, ℕ, ◌+◌, ◌-◌, ◌^◌, ◌<◌, ◌≤◌, List, [], ◌∷◌, ◌++◌, length, IfOk, OnOk, OnErr, IfErr, IfSome, MatchOption, true, false, ◌*◌, ◌⊎◌, vec_len, All, Contains, slice_index, nat_lt, if◌then◌else◌, map, MatchResult};
 ghost use Rattle.page_spec.specs.PageMap.{PageMap, page_at, page_size_of, page_sizes};
 ghost use Rattle.run_spec.specs.Good.{HasSizes};
 ghost use Rattle.std.specs.Vec.{vec_capacity};
@@ -83,8 +83,8 @@ impl<M: Means> Plain<M> {
             return Some(CommitFault::BusySnapshot { page, commit });
         }
         let pages = self.maps[self.history.len()].len() as u64;
-        let frames = prepared.changed.len() as u64 + 2;
-        if pages * self.page_size as u64 > MOST_BYTES || frames > MOST_FRAMES {
+        let frames = prepared.changed.as_slice().len() as u64 + 2;
+        if is_over(pages, self.page_size as u64, frames) {
             return Some(CommitFault::SizeLimit { pages, frames });
         }
         None
@@ -142,6 +142,16 @@ const MOST_BYTES: u64 = 1 << 30;
 
 // The most frames that a log may have.
 const MOST_FRAMES: u64 = 4_294_967_295;
+
+// Whether so many pages of this size, or so many frames, pass the limits.
+fn is_over(pages: u64, page_size: u64, frames: u64) -> bool
+    requires few { pages < 2 ^ 32 }
+    requires small { page_size ≤ 65536 }
+    ensures over { result ≡ true → (2 ^ 30 < pages * page_size) ⊎ (4294967295 < frames) }
+    ensures within { result ≡ false → (pages * page_size ≤ 2 ^ 30) × (frames ≤ 4294967295) }
+{
+    pages * page_size > MOST_BYTES || frames > MOST_FRAMES
+}
 
 // Pushes an item for which there is room.
 fn push_reserved<T: Drop>(items: &mut Vec<T>, item: T)

@@ -8,3 +8,4 @@ pub mod PageLines
 pub mod PageLineLaws
 pub mod World
 pub mod Reply
+pub mod Serial
