@@ -1,6 +1,7 @@
 //! Runs a script of lines on standard input, and writes the reply to each on standard output.
 #![tactic(auto)]
 
+mod lines;
 mod output;
 mod reply;
 
