@@ -1,5 +1,5 @@
 -- Parts of a buffer.
-use Rattle.std.proofs.Common.{◌≡◌, ◌≢◌, ℕ, ◌+◌, ◌-◌, ◌<◌, ◌≤◌, zero, suc, Bool, Option, List, [], ◌∷◌, ◌++◌, length, length-drop, length-take, length-append, take, drop, get_or, refl, sym, ap, ◌∙◌, subst, arith, append_assoc, eq-eqb, eqb-true, true}
+use Rattle.std.proofs.Common.{◌≡◌, ℕ, ◌+◌, ◌-◌, ◌<◌, ◌≤◌, zero, suc, Bool, Option, List, [], ◌∷◌, ◌++◌, length, length-drop, length-take, take, drop, get_or, refl, sym, ap, ◌∙◌, subst, arith, eq-eqb, eqb-true}
 use Rattle.std.specs.List.{slice_range}
 use Rattle.std.proofs.lemmas.List.{drop-take, take_all, take-append-drop, get_or-drop, take_at}
 use Rattle.std.proofs.Math.Seq.{take-add}

@@ -84,12 +84,14 @@ impl LineReader {
         &self.buffer[self.line..self.next]
     }
 
-    /// Looks for the next line. After `Failed`, which comes only where the source failed, what is left of the script is as before.
+    /// Looks for the next line. After `Failed`, which comes only where the source failed, what is left of the script is as before,
+    /// and the reader holds no whole line.
     pub fn advance<S: Source>(&mut self, src: &mut S) -> Result<Next, Failed>
         ensures next { IfOk result (λ next. WhereTold (script_left self.old (S.left src.old)) (script_left self.new (S.left src.new))
             (Advances next self.old self.new)) }
         ensures progress { IfOk result (λ next. next ≡ Next.Line → (self.old.passed < self.new.passed) × (self.new.passed ≤ script_limit)) }
         ensures failed { OnErr result (script_left self.new (S.left src.new) ≡ script_left self.old (S.left src.old)) }
+        ensures unended { OnErr result (HasNoEnd self.new.pending) }
         ensures cause { OnErr result (Rose (S.faults src.old) (S.faults src.new)) }
         ensures faults { S.faults src.old ≤ S.faults src.new }
         ensures loans { S.loans src.new ≡ S.loans src.old }

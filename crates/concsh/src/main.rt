@@ -4,6 +4,7 @@
 mod lines;
 mod output;
 mod reply;
+mod top;
 
 fn main(rt: HostRuntime) {
     let _ = rt;

@@ -1,6 +1,5 @@
-use Rattle.std.proofs.Common.{◌≡◌, ◌+◌, Bool, true, false, ap, cond, sym, take, ◌∙◌, arith, refl}
+use Rattle.std.proofs.Common.{◌≡◌, ◌+◌, true, false, ap, take, ◌∙◌, arith, refl}
 use Rattle.script.specs.Raw.{is_within}
-use Rattle.concsh.specs.declared.lines.Next.TheVariants.{Line, Refused}
 use Rattle.concsh.proofs.Ranges.{pending-given, is_within-given}
 use Rattle.concsh.proofs.lines.LineReader.give.Goals as goal
 

@@ -1,5 +1,4 @@
-use Rattle.std.proofs.Common.{◌≡◌, ◌≤◌, ◌+◌, ap, sym, subst, length, drop, take, List, ℕ, ◌∙◌, arith, Some, None}
-use Rattle.script.specs.Raw.{HasNoEnd}
+use Rattle.std.proofs.Common.{◌≡◌, ◌+◌, ap, subst, drop, ◌∙◌, arith, Some, None}
 use Rattle.std.specs.List.{slice_range}
 use Rattle.memchr.specs.Find.{IsFirstByte, is_byte}
 use Rattle.concsh.proofs.Ranges.{pending-given, HasNoEnd-rest, HasNoEnd-all, IsEnd-found}

@@ -1,4 +1,4 @@
-use Rattle.std.proofs.Common.{◌≡◌, ◌-◌, ◌∙◌, length, arith}
+use Rattle.std.proofs.Common.{◌≡◌, ◌-◌, length, arith}
 use Rattle.concsh.specs.Reading.{buffer_limit}
 use Rattle.concsh.proofs.Ranges.{Takes-refilled, length-pending}
 use Rattle.concsh.proofs.lines.LineReader.refill.Goals as goal
