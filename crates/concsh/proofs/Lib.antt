@@ -1,1 +1,4 @@
 pub mod Written
+pub mod Ranges
+pub mod Advancing
+pub mod Words

@@ -1,8 +1,10 @@
 //! Runs a script of lines on standard input, and writes the reply to each on standard output.
 #![tactic(auto)]
 
+mod lines;
 mod output;
 mod reply;
+mod top;
 
 fn main(rt: HostRuntime) {
     let _ = rt;

@@ -1,5 +1,10 @@
 -- The lines of a script, cut out of its bytes.
-use Rattle.std.specs.Prelude.{ℕ, ◌-◌, Bool, List, [], ◌∷◌, length, take, slice_index, if◌then◌else◌, ◌==◌}
+use Rattle.std.specs.Prelude.{ℕ, ◌≢◌, ◌+◌, ◌-◌, Bool, ◌&&◌, List, [], ◌∷◌, length, take, slice_index, if◌then◌else◌, ◌==◌, nat_le}
+
+-- no byte is LF
+abbrev pub HasNoEnd : List ℕ → Type 0
+HasNoEnd [] = Unit {0}
+HasNoEnd (byte ∷ bytes) = (byte ≢ 10) × HasNoEnd bytes
 
 -- one more byte before the first line
 abbrev pub before_lines : ℕ → List (List ℕ) → List (List ℕ)
@@ -34,3 +39,7 @@ line_limit = 65536
 -- the most bytes of a script
 abbrev pub script_limit : ℕ
 script_limit = 16777216
+
+-- a line is within the limits, where so many bytes of the script stand before it: its text, and where its end lies
+abbrev pub is_within : ℕ → List ℕ → Bool
+is_within passed raw = nat_le (length (text_of_raw raw)) line_limit && nat_le (passed + length raw) script_limit
