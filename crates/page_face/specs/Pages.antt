@@ -28,7 +28,7 @@ LeavesFields page first bytes = page ≡ 1 → freelist_fields bytes ≡ freelis
 pub record PutsPage {P : Type 0} (seen_over : P → View → View) (is_free : P → View → ℕ → Type 0) (is_neat has_spare : P → View → Type 0) (old : P) (page : ℕ) (bytes : List ℕ) (new : P) (world : View) : Type 0 where
   pub pages : (number : ℕ) → seen_over new world number ≡ view_with (seen_over old world) page bytes number
   pub list : (is_free old world page → ⊥) → is_neat old world → LeavesFields page (seen_over old world 1) bytes
-    → KeepsFree is_free is_neat has_spare old new world
+      → KeepsFree is_free is_neat has_spare old new world
 
 -- A number that was free isn't any more, and the others are free as before. The pages that weren't free are as before, page 1 but
 -- for its freelist fields, and the freelist is in order. The number is of a page that there was where the freelist had one to

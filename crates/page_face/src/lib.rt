@@ -19,3 +19,6 @@ pub use read_set::ReadSet;
 pub use run_spec::{
     Ckpt, CommitFault, FetchFault, Lock, Logs, Mode, PageImage, Pin, Readers, Receipt, Who,
 };
+
+#[cfg(test)]
+mod tests;
