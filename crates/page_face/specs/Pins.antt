@@ -1,6 +1,6 @@
 -- The pins that hold in an engine, and how a call changes them. `live` says of a list that its pins hold, equal ones as often as
 -- they stand there; `map_at` gives a pin's map.
-use Rattle.std.specs.Prelude.{◌≡◌, ℕ, List, ◌∷◌, ◌++◌, length, Contains, Option, All}
+use Rattle.std.specs.Prelude.{◌≡◌, List, ◌∷◌, ◌++◌, Contains, Option}
 use Rattle.page_spec.specs.PageMap.{PageMap}
 use Rattle.run_spec.specs.declared.pins.Pin.{Pin}
 
@@ -22,8 +22,3 @@ pub record AddsPin {E : Type 0} (live : E → List Pin → Type 0) (map_at : E �
 pub record TakesPin {E : Type 0} (live : E → List Pin → Type 0) (map_at : E → Pin → Option PageMap) (old : E) (pin : Pin) (new : E) : Type 0 where
   pub taken : (before after : List Pin) → live old (before ++ pin ∷ after) → live new (before ++ after)
   pub maps : (other : Pin) → IsLive live new other → map_at new other ≡ map_at old other
-
--- a map of so many pages, each of this many bytes
-pub record HasSizes (pages : PageMap) (size page_size : ℕ) : Type 0 where
-  pub count : length pages ≡ size
-  pub each : All (λ page. length page ≡ page_size) pages

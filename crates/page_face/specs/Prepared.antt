@@ -1,9 +1,10 @@
 -- What a transaction that is handed in has to be.
-use Rattle.std.specs.Prelude.{◌≡◌, ℕ, ◌≤◌, List, [], length, All, map}
+use Rattle.std.specs.Prelude.{Contains, ◌≡◌, ℕ, ◌≤◌, List, [], length, All, map}
 use Rattle.page_spec.specs.PageMap.{PageMap}
 use Rattle.run_spec.specs.PageSet.{AreDifferent}
 use Rattle.run_spec.specs.declared.pins.Pin.{Pin}
 use Rattle.run_spec.specs.declared.commits.Who.{Who}
+use Rattle.run_spec.specs.declared.commits.Mode.TheVariants.{Plain}
 use Rattle.run_spec.specs.Change.{Change}
 use Rattle.run_spec.specs.Seen.{Seen, Submitted}
 use Rattle.run_spec.specs.Good.{Good}
@@ -33,13 +34,14 @@ submitted prepared who = record {
 }
 
 -- What a commit asks of a transaction: it is of the pin's snapshot; the pages that it changed are different and of the snapshot,
--- with all bytes of a page; and it makes and frees no page yet.
+-- with all bytes of a page; a plain one has read page 1; and it makes and frees no page yet.
 pub record IsFit {M : Type 0} (seen : Seen) (pin : Pin) (prepared : Prepared M) : Type 0 where
   pub snap : prepared.snap ≡ pin.n
   pub base : prepared.base ≡ pin.size
   pub different : AreDifferent (map (λ image. image.page) prepared.changed)
   pub in_range : All (λ image. (1 ≤ image.page) × (image.page ≤ pin.size)) prepared.changed
   pub whole : All (λ image. length image.bytes ≡ seen.page_size) prepared.changed
+  pub first_page : prepared.mode ≡ Plain → Contains prepared.reads 1
   pub fresh : prepared.fresh ≡ []
   pub freed : prepared.freed ≡ []
 

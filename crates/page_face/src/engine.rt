@@ -4,8 +4,8 @@ ghost use Rattle.page_spec.specs.PageMap.{PageMap, page_at, page_sizes};
 ghost use Rattle.run_spec.specs.declared.pins.Pin.{Pin};
 ghost use Rattle.run_spec.specs.Seen.{Seen, Found, Later, Begins, Ends, Accepts, Refuses, Checkpoints, Fails, OnlyFaults};
 ghost use Rattle.run_spec.specs.Logs.{told_logs};
-ghost use Rattle.run_spec.specs.Good.{RunsFrom};
-ghost use Rattle.page_face.specs.Pins.{IsLive, KeepsPins, AddsPin, TakesPin, HasSizes};
+ghost use Rattle.run_spec.specs.Good.{RunsFrom, HasSizes};
+ghost use Rattle.page_face.specs.Pins.{IsLive, KeepsPins, AddsPin, TakesPin};
 ghost use Rattle.page_face.specs.Prepared.{submitted, IsFit, IsGood};
 ghost use Rattle.page_face.specs.Fetch.{FetchedIn};
 
@@ -41,19 +41,22 @@ pub trait Engine<M: Means> {
     /// The names of the references that the engine holds.
     ghost loans: { Self → List ℕ };
 
-    /// The page size in bytes.
+    /// The page size in bytes, a legal one.
     fn page_size(&self) -> usize
-        ensures { result ≡ (seen self.now).page_size };
+        ensures value { result ≡ (seen self.now).page_size }
+        ensures legal { Contains page_sizes result };
 
-    /// How many bytes of a page are in use: the page size less the reserved bytes.
+    /// How many bytes of a page are in use, at least 480: the page size less the reserved bytes.
     fn usable(&self) -> usize
-        ensures { result ≡ (seen self.now).usable };
+        ensures value { result ≡ (seen self.now).usable }
+        ensures least { 480 ≤ result }
+        ensures most { result ≤ (seen self.now).page_size };
 
     /// Pins the newest map. It takes no memory and can't fail.
     fn begin(&mut self) -> Pin
         requires { may_begin self.old }
-        ensures begun { Found (alone self.old) (seen self.old) (λ mid. (after : Seen) × Begins mid result after
-            × Later (alone self.old) after (seen self.new) × (map_at self.new result ≡ mid.newest)) }
+        ensures begun { Found (alone self.old) (free self.old) (seen self.old) (λ mid. (after : Seen) × Begins mid result after
+            × Later (alone self.old) (free self.old) after (seen self.new) × (map_at self.new result ≡ mid.newest)) }
         ensures pins { AddsPin live map_at self.old result self.new }
         ensures runs { (first : PageMap) → begins self.old first → begins self.new first }
         ensures free { free self.old → free self.new }
@@ -66,7 +69,7 @@ pub trait Engine<M: Means> {
         requires page { (1 ≤ page) × (page ≤ pin.now.size) }
         requires room { length buf.old ≡ (seen self.old).page_size }
         ensures page { OnOk result (IfSome (map_at self.old pin.now) (λ pages. buf.new ≡ page_at pages page)) }
-        ensures cause { Found (alone self.old) (seen self.old) (λ mid. FetchedIn mid result (seen self.new)) }
+        ensures cause { Found (alone self.old) (free self.old) (seen self.old) (λ mid. FetchedIn mid result (seen self.new)) }
         ensures pins { KeepsPins live map_at self.old self.new }
         ensures runs { (first : PageMap) → begins self.old first → begins self.new first }
         ensures may_begin { may_begin self.old → may_begin self.new }
@@ -86,9 +89,9 @@ pub trait Engine<M: Means> {
         requires good { (first : PageMap) → begins self.old first
             → IfSome (map_at self.old pin.now) (λ snapshot. IsGood (M.sound first) (M.leads first) snapshot prepared) }
         ensures answer { MatchResult result
-            (λ receipt. Found (alone self.old) (seen self.old) (λ mid. Accepts mid (submitted prepared who) receipt (seen self.new)))
+            (λ receipt. Found (alone self.old) (free self.old) (seen self.old) (λ mid. Accepts mid (submitted prepared who) receipt (seen self.new)))
             (λ refusal. (refusal.1 ≡ prepared)
-            × Found (alone self.old) (seen self.old) (λ mid. Refuses mid (submitted prepared who) refusal.0 (seen self.new))) }
+            × Found (alone self.old) (free self.old) (seen self.old) (λ mid. Refuses mid (submitted prepared who) refusal.0 (seen self.new))) }
         ensures pins { KeepsPins live map_at self.old self.new }
         ensures runs { (first : PageMap) → begins self.old first → begins self.new first }
         ensures may_begin { may_begin self.old → may_begin self.new }
@@ -99,8 +102,8 @@ pub trait Engine<M: Means> {
     /// Takes one step of a checkpoint. After `Failed` the logs are as before, and the step may be taken again.
     fn ckpt(&mut self) -> Result<Ckpt, Failed>
         ensures answer { MatchResult result
-            (λ done. Found (alone self.old) (seen self.old) (λ mid. Checkpoints mid done (seen self.new)))
-            (λ _. Found (alone self.old) (seen self.old) (λ mid. Fails mid (seen self.new))) }
+            (λ done. Found (alone self.old) (free self.old) (seen self.old) (λ mid. Checkpoints mid done (seen self.new)))
+            (λ _. Found (alone self.old) (free self.old) (seen self.old) (λ mid. Fails mid (seen self.new))) }
         ensures pins { KeepsPins live map_at self.old self.new }
         ensures runs { (first : PageMap) → begins self.old first → begins self.new first }
         ensures may_begin { may_begin self.old → may_begin self.new }
@@ -110,7 +113,7 @@ pub trait Engine<M: Means> {
 
     /// Says how the logs stand.
     fn logs(&mut self) -> Logs
-        ensures answer { Found (alone self.old) (seen self.old) (λ mid. (result ≡ told_logs mid.logs) × (seen self.new ≡ mid)) }
+        ensures answer { Found (alone self.old) (free self.old) (seen self.old) (λ mid. (result ≡ told_logs mid.logs) × (seen self.new ≡ mid)) }
         ensures pins { KeepsPins live map_at self.old self.new }
         ensures runs { (first : PageMap) → begins self.old first → begins self.new first }
         ensures may_begin { may_begin self.old → may_begin self.new }
@@ -129,11 +132,8 @@ pub trait Engine<M: Means> {
         ensures alone { alone self.old → alone self.new }
         ensures loans { loans self.new ≡ loans self.old };
 
-    /// The page size is a legal one, and at least 480 bytes of a page are in use.
-    ghost sizes: { (e : Self) → Contains page_sizes (seen e).page_size × (480 ≤ (seen e).usable) × ((seen e).usable ≤ (seen e).page_size) };
-
-    /// The newest map has as many pages as the engine says, all of its page size.
-    ghost newest_sizes: { (e : Self) (pages : PageMap) → (seen e).newest ≡ Option.Some pages
+    /// Where the engine stands for a run, the newest map has as many pages as it says, all of its page size.
+    ghost newest_sizes: { (e : Self) (first pages : PageMap) → begins e first → (seen e).newest ≡ Option.Some pages
         → HasSizes pages (seen e).size (seen e).page_size };
 
     /// So has the map of a pin that holds, which is told where the newest one is.

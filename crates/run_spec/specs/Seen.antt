@@ -42,8 +42,9 @@ abbrev pub KeepsStop : Option Stop → Option Stop → Type 0
 KeepsStop None new = Unit {0}
 KeepsStop (Some stop) new = new ≡ Some stop
 
--- Others may have committed and checkpointed meanwhile: the history grew at its end alone. Where the engine is alone, nothing changed.
-pub record Later (alone : Type 0) (old new : Seen) : Type 0 where
+-- Others may have committed and checkpointed meanwhile: the history grew at its end alone. Where the engine is alone, nothing
+-- changed; where a transaction may always begin on it, its own calls alone change the logs that it tells.
+pub record Later (alone free : Type 0) (old new : Seen) : Type 0 where
   pub more : List Commit
   pub grown : new.history ≡ old.history ++ more
   pub own : new.own ≡ old.own
@@ -53,11 +54,12 @@ pub record Later (alone : Type 0) (old new : Seen) : Type 0 where
   pub faults : old.faults ≤ new.faults
   pub page_size : new.page_size ≡ old.page_size
   pub usable : new.usable ≡ old.usable
+  pub logs : free → new.logs ≡ old.logs
   pub nobody : alone → new ≡ old
 
 -- at some moment after the old one, which others may have led to, the event came
-abbrev pub Found : Type 0 → Seen → (Seen → Type 0) → Type 0
-Found alone old event = (mid : Seen) × Later alone old mid × event mid
+abbrev pub Found : Type 0 → Type 0 → Seen → (Seen → Type 0) → Type 0
+Found alone free old event = (mid : Seen) × Later alone free old mid × event mid
 
 -- the lock of a reader that comes now; an engine that keeps no logs lends the first
 abbrev pub lock_now : Option LogState → Lock
