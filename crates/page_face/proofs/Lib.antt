@@ -1,1 +1,2 @@
 mod ReadSets
+mod Shelf

@@ -7,13 +7,18 @@
 
 mod engine;
 mod means;
+mod pages;
 mod prepared;
 mod read_set;
 
 pub use engine::Engine;
 pub use means::{Kept, Means};
+pub use pages::{EditPages, Pages, PutPages};
 pub use prepared::Prepared;
 pub use read_set::ReadSet;
 pub use run_spec::{
     Ckpt, CommitFault, FetchFault, Lock, Logs, Mode, PageImage, Pin, Readers, Receipt, Who,
 };
+
+#[cfg(test)]
+mod tests;

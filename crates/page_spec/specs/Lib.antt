@@ -1,1 +1,2 @@
 pub mod PageMap
+pub mod View
