@@ -1,0 +1,3 @@
+pub mod Fuse
+pub mod Pieces
+pub mod Words
