@@ -1,5 +1,5 @@
 -- What the answers of a disk say, where it tells its bytes.
-use Rattle.std.specs.Prelude.{◌≡◌, ℕ, ◌+◌, ◌≤◌, Bool, List, Option, length, take, drop, IfSome}
+use Rattle.std.specs.Prelude.{◌≡◌, ◌⊎◌, ℕ, ◌+◌, ◌≤◌, Bool, List, Option, length, take, drop, IfSome}
 use Rattle.disk_face.specs.declared.disk.File.{File}
 use Rattle.disk_face.specs.declared.step.Piece.{Piece}
 use Rattle.disk_face.specs.declared.step.Step.TheVariants.{Refused}
@@ -18,10 +18,10 @@ IsInside told file at count = IfSome told (λ told. at + count ≤ length (conte
 abbrev pub IsRead : Option History → File → ℕ → List ℕ → Type 0
 IsRead told file at bytes = IfSome told (λ told. bytes ≡ take (length bytes) (drop at (content (reads told) file)))
 
--- A write of the piece was refused: at most its range may have changed, and the file ends at the range's end or earlier
--- if it has become longer.
+-- A write of the piece was refused. Either nothing of it came to the file, or at most its range may have changed, and
+-- the file is as long as before or ends inside the range.
 abbrev pub Refuses : Piece → Option History → Option History → Type 0
-Refuses piece before later = (left : List ℕ) × (length left ≤ length piece.bytes) × (later ≡ after (Refused piece left) before)
+Refuses piece before later = (later ≡ before) ⊎ ((left : List ℕ) × (length left ≤ length piece.bytes) × (later ≡ after (Refused piece left) before))
 
 -- the journal's answer is this one
 abbrev pub IsAnswer : Option Bool → Bool → Type 0

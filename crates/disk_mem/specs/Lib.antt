@@ -1,3 +1,7 @@
 pub mod Fuse
 pub mod Pieces
 pub mod Words
+pub mod Plan
+pub mod File
+pub mod Changed
+pub mod Store
