@@ -5,3 +5,4 @@ pub mod Plan
 pub mod File
 pub mod Changed
 pub mod Store
+pub mod Disk

@@ -1,6 +1,7 @@
 //! What lies outside the program, in memory: for tests, and for proofs that a crash leaves what it may leave.
 #![tactic(auto)]
 
+mod disk;
 mod file;
 mod fuse;
 mod plan;
@@ -11,6 +12,7 @@ mod store;
 mod tests;
 mod words;
 
+pub use disk::MemDisk;
 pub use plan::{Call, Fail};
 pub use sink::MemSink;
 pub use source::MemSource;
