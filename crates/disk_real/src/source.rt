@@ -1,6 +1,7 @@
 // Standard input.
 ghost use Rattle.std.specs.Prelude.{[], None};
 
+use crate::fault::counted;
 use disk_face::{Failed, Source};
 use std::io::Read;
 use std::marker::PhantomData;
@@ -32,12 +33,7 @@ impl<'a, R: Input> Source for StdSource<'a, R> {
     ghost loans = { λ source. [] };
 
     fn take(&mut self, buf: &mut [u8]) -> Result<usize, Failed> {
-        match self.reader.read(buf) {
-            Ok(count) => Ok(count),
-            Err(_) => {
-                self.faults = self.faults.saturating_add(1);
-                Err(Failed)
-            }
-        }
+        let answer = self.reader.read(buf);
+        counted(&mut self.faults, answer)
     }
 }
