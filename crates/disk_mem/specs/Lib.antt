@@ -6,3 +6,4 @@ pub mod File
 pub mod Changed
 pub mod Store
 pub mod Disk
+pub mod Crash

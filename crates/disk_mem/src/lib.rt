@@ -1,6 +1,7 @@
 //! What lies outside the program, in memory: for tests, and for proofs that a crash leaves what it may leave.
 #![tactic(auto)]
 
+mod crash;
 mod disk;
 mod file;
 mod fuse;
