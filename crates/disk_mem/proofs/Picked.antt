@@ -21,8 +21,8 @@ first_and_rest xs place d h = rw (add-one, drop-cons xs place d)
 -- one place more of a loop over the places
 pub picked_step : (marks : List Bool) (bytes pick : List ℕ) (place : ℕ) → place < length bytes → place < length marks
     → picked (drop place marks) (drop place bytes) pick
-      ≡ cond (get_or marks place false) (slice_index_or pick 0 (get_or bytes place 0)) (get_or bytes place 0)
-        ∷ picked (drop (place + 1) marks) (drop (place + 1) bytes) (cond (get_or marks place false) (drop 1 pick) pick)
+    ≡ cond (get_or marks place false) (slice_index_or pick 0 (get_or bytes place 0)) (get_or bytes place 0)
+    ∷ picked (drop (place + 1) marks) (drop (place + 1) bytes) (cond (get_or marks place false) (drop 1 pick) pick)
 picked_step marks bytes pick place in_bytes in_marks =
     ap (λ ms. picked ms (drop place bytes) pick) (first_and_rest marks place false in_marks)
     ∙ ap (λ bs. picked (get_or marks place false ∷ drop (place + 1) marks) bs pick) (first_and_rest bytes place 0 in_bytes)

@@ -3,7 +3,7 @@ use Rattle.std.specs.Prelude.{ℕ, ◌+◌, Bool, cond, ◌&&◌, nat_le, nat_lt
 use Rattle.std.specs.List.{list_any, range_with_len}
 use Rattle.disk_face.specs.declared.disk.File.{File}
 use Rattle.disk_face.specs.declared.disk.File.TheVariants.{Main, Log1, Log2}
-use Rattle.disk_face.specs.Files.{Files}
+use Rattle.disk_face.specs.Files.{content}
 use Rattle.disk_face.specs.Steps.{History, reads}
 use Rattle.disk_face.specs.Image.{Range, same_file, unsure}
 
@@ -25,18 +25,20 @@ picked (mark ∷ marks) (byte ∷ bytes) pick = cond mark (slice_index_or pick 0
 abbrev pub unpicked : List Bool → List ℕ → List ℕ
 unpicked marks pick = drop (count_by (λ mark. mark) marks) pick
 
+-- the places of a file that a crash may leave with any bytes
+abbrev pub marks_of : History → File → List Bool
+marks_of told file = places (unsure [] told.steps) file (length (content (reads told) file))
+
 -- The files after a crash, in the order of main file, first log, second log. All that they hold is on the medium.
 abbrev pub crashed : History → List ℕ → History
 crashed told pick =
-  let ranges : List Range = unsure [] told.steps in
-  let main : List Bool = places ranges Main (length (reads told).main) in
-  let log1 : List Bool = places ranges Log1 (length (reads told).log1) in
-  let log2 : List Bool = places ranges Log2 (length (reads told).log2) in
-  record {
-    first = record {
-      main = picked main (reads told).main pick;
-      log1 = picked log1 (reads told).log1 (unpicked main pick);
-      log2 = picked log2 (reads told).log2 (unpicked log1 (unpicked main pick))
-    };
-    steps = []
-  }
+    let after_main : List ℕ = unpicked (marks_of told Main) pick in
+    let after_log1 : List ℕ = unpicked (marks_of told Log1) after_main in
+    record {
+      first = record {
+        main = picked (marks_of told Main) (reads told).main pick;
+        log1 = picked (marks_of told Log1) (reads told).log1 after_main;
+        log2 = picked (marks_of told Log2) (reads told).log2 after_log1;
+      };
+      steps = [];
+    }

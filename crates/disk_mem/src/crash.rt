@@ -1,15 +1,15 @@
 // What a crash leaves of one file.
 ghost use Rattle.std.specs.Prelude.{◌≡◌, ℕ, ◌≤◌, ◌<◌, ◌+◌, List, [], ◌∷◌, false, true, length, reverse, replicate, drop, cond, nat_le, nat_lt, ◌&&◌, ◌||◌, slice_index_or};
-ghost use Rattle.disk_face.specs.Image.{Range, range_of, unsure};
+ghost use Rattle.disk_face.specs.Image.{Range, range_of, same_file, unsure};
 ghost use Rattle.disk_mem.specs.Crash.{places, picked, unpicked};
 
 use disk_face::{File, Piece, Step};
 
 /// Marks the places of a file that a crash after these steps, the oldest first, may leave with any bytes.
 pub(crate) fn mark(steps: &[Step], file: File, marks: &mut [bool])
-    requires { marks.old ≡ places [] file (length marks.old) }
     ensures { marks.new ≡ places (unsure [] (reverse steps.now)) file (length marks.old) }
 {
+    clear(marks);
     for step in steps {
         mark_step(step, file, marks);
     }
@@ -23,7 +23,7 @@ fn mark_step(step: &Step, file: File, marks: &mut [bool])
         Step::Wrote(piece) => mark_piece(piece, file, marks),
         Step::Refused(piece, _) => mark_piece(piece, file, marks),
         Step::Synced(synced) => {
-            if *synced == file {
+            if is_same(*synced, file) {
                 clear(marks);
             }
         }
@@ -34,9 +34,15 @@ fn mark_piece(piece: &Piece, file: File, marks: &mut [bool])
     ensures { (ranges : List Range) → marks.old ≡ places ranges file (length marks.old)
         → marks.new ≡ places (range_of piece.now ∷ ranges) file (length marks.old) }
 {
-    if piece.file == file {
+    if is_same(piece.file, file) {
         mark_range(piece.at as usize, piece.bytes.bytes().len(), marks);
     }
+}
+
+fn is_same(one: File, other: File) -> bool
+    ensures { result ≡ same_file one other }
+{
+    one == other
 }
 
 fn mark_range(from: usize, count: usize, marks: &mut [bool])

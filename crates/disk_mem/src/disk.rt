@@ -1,11 +1,13 @@
 // A disk in memory.
-ghost use Rattle.std.specs.Prelude.{◌≡◌, ℕ, List, [], Some, None, false, IsErr, IsTrue, ◌↔◌, OnOk, OnErr};
+ghost use Rattle.std.specs.Prelude.{◌≡◌, ℕ, List, [], Some, None, false, IsErr, IsTrue, ◌↔◌, IfOk, OnOk, OnErr};
 ghost use Rattle.disk_face.specs.Faults.{Rose};
 ghost use Rattle.disk_face.specs.Files.{content};
 ghost use Rattle.disk_face.specs.Steps.{reads};
 ghost use Rattle.disk_mem.specs.Plan.{fails};
 ghost use Rattle.disk_mem.specs.Disk.{begun, failed};
 ghost use Rattle.disk_mem.specs.Store.{fresh};
+ghost use Rattle.disk_mem.specs.Crash.{crashed};
+ghost use Rattle.disk_face.specs.Image.{MayLeave};
 
 use crate::plan::Plan;
 use crate::store::Store;
@@ -87,6 +89,28 @@ impl MemDisk {
         ensures { result.now ≡ content (reads self.now.told) file }
     {
         self.store.bytes(file)
+    }
+
+    /// The disk after a crash at this moment, with no call that fails and its files still to be named. Where a crash may
+    /// leave any byte the next of `pick` is taken, in the order of main file, first log and second log, and by place; where
+    /// `pick` is used up the byte that a read gives stands. The error is want of memory.
+    pub fn crash(&self, pick: &[u8]) -> Result<MemDisk, AllocError>
+        ensures image { IfOk result (λ disk. disk ≡ record {
+          told = crashed self.now.told pick.now;
+          attached = false;
+          hot = self.now.hot;
+          plan = record { failing = []; passes = None; calls = 0 };
+          faults = 0;
+        }) }
+        ensures allowed { IfOk result (λ disk. MayLeave [] self.now.told (reads disk.told)) }
+    {
+        Ok(MemDisk {
+            store: self.store.crash(pick)?,
+            attached: false,
+            hot: self.hot,
+            plan: Plan::new(Vec::new(self.store.alloc())),
+            faults: 0,
+        })
     }
 
     /// Begins a call, which fails where the plan says so.

@@ -1,10 +1,12 @@
 // Three files in memory that keep their steps.
-ghost use Rattle.std.specs.Prelude.{◌≡◌, ◌≤◌, ◌⊎◌, [], length, OnOk, OnErr};
+ghost use Rattle.std.specs.Prelude.{◌≡◌, ◌≤◌, ◌⊎◌, [], length, IfOk, OnOk, OnErr};
+ghost use Rattle.disk_mem.specs.Crash.{marks_of, picked, unpicked, crashed};
 ghost use Rattle.disk_face.specs.declared.step.Step.TheVariants.{Wrote, Refused, Synced};
 ghost use Rattle.disk_face.specs.Files.{content};
 ghost use Rattle.disk_face.specs.Steps.{reads};
 ghost use Rattle.disk_mem.specs.Store.{fresh, further};
 
+use crate::crash;
 use crate::file::MemFile;
 use disk_face::{Bytes, File, Piece, Step};
 use std::alloc::{AllocError, Global};
@@ -40,6 +42,10 @@ impl Store {
             log2: MemFile::new(log2),
             steps: Vec::new(alloc),
         }
+    }
+
+    pub(crate) fn alloc(&self) -> Global {
+        *self.steps.allocator()
     }
 
     pub(crate) fn bytes(&self, file: File) -> &[u8]
@@ -89,5 +95,28 @@ impl Store {
         ensures refused { OnErr result (self.new ≡ self.old) }
     {
         Ok(self.steps.push(Step::Synced(file))?)
+    }
+
+    /// What a crash leaves, with the bytes of `pick` wherever it may leave any.
+    pub(crate) fn crash(&self, pick: &[u8]) -> Result<Store, AllocError>
+        ensures { IfOk result (λ left. left ≡ crashed self.now pick.now) }
+    {
+        let (main, pick) = self.left_of(File::Main, pick)?;
+        let (log1, pick) = self.left_of(File::Log1, pick)?;
+        let (log2, _) = self.left_of(File::Log2, pick)?;
+        Ok(Store::new(*self.steps.allocator(), main, log1, log2))
+    }
+
+    /// What a crash leaves of one file, and what it leaves of `pick`.
+    fn left_of<'a>(&self, file: File, pick: &'a [u8]) -> Result<(Vec<u8>, &'a [u8]), AllocError>
+        ensures bytes { IfOk result (λ left. left.0.items ≡ picked (marks_of self.now file) (content (reads self.now) file) pick.now) }
+        ensures left { IfOk result (λ left. left.1.now ≡ unpicked (marks_of self.now file) pick.now) }
+    {
+        let alloc = *self.steps.allocator();
+        let mut bytes = self.bytes(file).to_vec(alloc)?;
+        let mut marks = vec![in alloc; false; bytes.len()]?;
+        crash::mark(&self.steps, file, &mut marks);
+        let rest = crash::scatter(&marks, pick, &mut bytes);
+        Ok((bytes, rest))
     }
 }
