@@ -8,12 +8,14 @@ mod disk;
 mod random;
 mod sink;
 mod source;
+mod step;
 mod text;
 
 pub use disk::{Disk, File};
 pub use random::Salts;
 pub use sink::Sink;
 pub use source::Source;
+pub use step::{Piece, Step};
 pub use text::{Bytes, Txt, Word};
 
 /// A call on something outside the program failed. Its count of faults rose in that call.

@@ -1,5 +1,5 @@
 // Lists of bytes that contracts see as lists.
-ghost use Rattle.std.specs.Prelude.{◌≡◌, IfOk};
+ghost use Rattle.std.specs.Prelude.{◌≡◌, [], IfOk};
 
 use std::alloc::{AllocError, Global};
 use std::marker::Model;
@@ -19,6 +19,15 @@ impl Model for Bytes {
 }
 
 impl Bytes {
+    /// No bytes. It takes no memory.
+    pub fn new(alloc: Global) -> Bytes
+        ensures { result ≡ [] }
+    {
+        Bytes {
+            items: Vec::new(alloc),
+        }
+    }
+
     /// A copy of these bytes. The error is want of memory.
     pub fn of(alloc: Global, from: &[u8]) -> Result<Bytes, AllocError>
         ensures { IfOk result (λ bytes. bytes ≡ from.now) }
