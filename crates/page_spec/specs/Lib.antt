@@ -1,1 +1,3 @@
+pub mod Bytes
 pub mod PageMap
+pub mod Varint
