@@ -5,10 +5,9 @@
 #![tactic(auto)]
 
 mod fields;
-mod varint;
-
 #[cfg(test)]
 mod tests;
+mod varint;
 
 pub use fields::{get_u16, get_u32, put_u16, put_u32};
 pub use varint::{get_varint, put_varint};

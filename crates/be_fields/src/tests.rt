@@ -26,3 +26,23 @@ fn varints_are_those_of_the_format(rt: HostRuntime) -> Result<(), Fail> {
     }
     Ok(())
 }
+
+#[test]
+fn a_varint_that_ends_early_is_none(rt: HostRuntime) {
+    assert_eq!(rt; get_varint(b""), None);
+    assert_eq!(rt; get_varint(b"\x81"), None);
+    assert_eq!(rt; get_varint(b"\xff\xff\xff\xff\xff\xff\xff\xff"), None);
+}
+
+#[test]
+fn fields_are_big_endian(rt: HostRuntime) {
+    let mut page = [7u8; 8];
+    put_u16(&mut page, 1, 0x1234);
+    put_u32(&mut page, 4, 0x5678_9abc);
+    assert_eq!(rt;
+        page.as_slice(),
+        b"\x07\x12\x34\x07\x56\x78\x9a\xbc".as_slice()
+    );
+    assert_eq!(rt; get_u16(&page, 1), 0x1234);
+    assert_eq!(rt; get_u32(&page, 4), 0x5678_9abc);
+}

@@ -9,7 +9,7 @@ returns-then-at c =
     let read : c.from-byte.result ≡ get_or c.args.from.now loop.at 0 = c.from-byte.ensures in
     let nine : loop.at ≡ 8 = omega arith in
     let begins = ends_here c.args.from.now loop.at loop.high c.from-byte.result 256 loop.invariant.few (omega arith)
-        loop.invariant.go_on loop.invariant.spelled read (λ less. absurd (omega arith)) (last_values_nine (loop.at + 1) (omega arith)) in
+    loop.invariant.go_on loop.invariant.spelled read (λ less. absurd (omega arith)) (last_values_nine (loop.at + 1) (omega arith)) in
     let ninth : loop.at + 1 ≡ 9 = omega arith in
     rw ninth at begins
 
@@ -30,7 +30,7 @@ returns-then-byte-lt128 c =
     let loop = c.loop-at in
     let read : c.from-byte.result ≡ get_or c.args.from.now loop.at 0 = c.from-byte.ensures in
     ends_here c.args.from.now loop.at loop.high c.from-byte.result 128 loop.invariant.few (omega arith)
-        loop.invariant.go_on loop.invariant.spelled read (λ less. omega arith) (last_values_less (loop.at + 1) (omega arith))
+    loop.invariant.go_on loop.invariant.spelled read (λ less. omega arith) (last_values_less (loop.at + 1) (omega arith))
 
 pub loop-at-preserved : goal.loop-at-preserved
 loop-at-preserved c =

@@ -7,9 +7,9 @@ use Rattle.be_fields.proofs.varint.put_varint.Goals as goal
 pub returns-clause-ok : goal.returns-clause-ok
 returns-clause-ok c =
     let written = written_is c.args.n c.shortest_size-last.result c.last_values-values.result (0 ∷ 0 ∷ 0 ∷ 0 ∷ 0 ∷ 0 ∷ 0 ∷ 0 ∷ 0 ∷ []) c.put_groups.new.to
-        c.shortest_size-last.ensures.value (omega arith) (omega arith) c.last_values-values.ensures.value c.put_groups.ensures in
+    c.shortest_size-last.ensures.value (omega arith) (omega arith) c.last_values-values.ensures.value c.put_groups.ensures in
     appended c.extend_from_slice.result c.extend_from_slice.new.self.items c.args.to.now.items (shortest_varint c.args.n)
-        (rw written at c.extend_from_slice.ensures.items)
+    (rw written at c.extend_from_slice.ensures.items)
 
 pub returns-clause-shortest : goal.returns-clause-shortest
 returns-clause-shortest c = shortest_varint_is c.args.n (omega arith)
