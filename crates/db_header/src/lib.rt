@@ -1,13 +1,18 @@
-// A library with one function.
+//! The database header: the first 100 bytes of page 1, read with each refusal in its order, and written.
+//!
+//! The form is that of SQLite's page "Database File Format" under "The Database Header". The limit on a file's bytes, the
+//! version pair 3, 3 for two logs, and the order of the refusals are this project's own.
 #![tactic(auto)]
 
-ghost use Rattle.std.specs.Prelude.{◌≡◌};
-ghost use Rattle.db_header.specs.Echo.{echo_of};
+mod fault;
+mod header;
+mod read;
+mod write;
 
-// The `ensures` clause is the contract: what `echo` returns is `echo_of` of its argument, a definition
-// in `specs/Echo.antt`, which a caller's clause can cite too.
-pub fn echo(x: usize) -> usize
-    ensures { result ≡ echo_of x }
-{
-    x
-}
+#[cfg(test)]
+mod tests;
+
+pub use fault::HeaderFault;
+pub use header::Header;
+pub use read::read_header;
+pub use write::write_header;
