@@ -1,6 +1,6 @@
-ghost use Rattle.std.specs.Prelude.{◌≡◌, ◌<◌, ◌≤◌, ◌++◌, length, ℕ, List, take, slice_index};
+ghost use Rattle.std.specs.Prelude.{◌≡◌, ◌<◌, ◌≤◌, ◌++◌, length, ℕ, List, take, slice_index, IsTrue};
 ghost use Rattle.page_spec.specs.Bytes.{u16_at, u32_at, DiffersOnlyWithin};
-ghost use Rattle.page_spec.specs.Header.{KeepsUnlisted, database_text, spelled_page_size};
+ghost use Rattle.page_spec.specs.Header.{KeepsUnlisted, database_text, is_page_size, spelled_page_size};
 ghost use Rattle.db_header.specs.Header.{TellsHeader, IsTold};
 
 use be_fields::{put_u16, put_u32};
@@ -42,13 +42,22 @@ fn write_start(header: &Header, to: &mut [u8])
     ensures others { DiffersOnlyWithin to.old to.new 0 24 }
 {
     to[..16].copy_from_slice(DATABASE_TEXT);
-    put_u16(to, 16, if header.page_size == 65536 { 1 } else { header.page_size as u16 });
+    put_u16(to, 16, stored_page_size(header.page_size));
     to[18] = header.versions.0;
     to[19] = header.versions.1;
     to[20] = header.reserved;
     to[21] = 64;
     to[22] = 32;
     to[23] = 32;
+}
+
+/// The two bytes that spell a page size.
+#[tactic(auto, unfolding(page_spec::specs::Header::spelled_page_size, page_spec::specs::Header::is_page_size))]
+fn stored_page_size(size: u32) -> u16
+    requires { IsTrue (is_page_size size) }
+    ensures { spelled_page_size result ≡ size }
+{
+    if size == 65536 { 1 } else { size as u16 }
 }
 
 /// Writes the numbers from byte 24 up to 48.

@@ -1,6 +1,7 @@
 -- What two rows of bytes that differ only within some bounds have in common.
-use Rattle.std.proofs.Common.{◌≡◌, ℕ, ◌+◌, ◌≤◌, ◌<◌, List, length, get_or, take, drop, refl, sym, ◌∙◌, arith, length-drop, get_or-drop}
-use Rattle.std.proofs.lemmas.List.{length-take, get_or-take}
+use Rattle.std.proofs.Common.{ap, set, slice_range, length-set, ◌-◌, ◌≡◌, ℕ, ◌+◌, ◌≤◌, ◌<◌, List, length, get_or, take, drop, refl, sym, ◌∙◌, arith, length-drop, get_or-drop}
+use Rattle.std.proofs.lemmas.List.{length-take, get_or-take, get_or-set_other}
+use Rattle.std.proofs.lemmas.Slice.{between_is}
 use Rattle.std.proofs.lemmas.Grind.{same_number_lists}
 use Rattle.page_spec.specs.Bytes.{u16_at, u32_at, DiffersOnlyWithin}
 
@@ -42,3 +43,18 @@ pub drop-above : {old new : List ℕ} {from to : ℕ} → DiffersOnlyWithin old 
 drop-above {old} {new} d n above =
     same_number_lists _ _ (omega (arith, length-drop n new, length-drop n old, d.same_length))
     (λ k l. get_or-drop n new k 0 ∙ d.after (n + k) (omega arith) ∙ sym (get_or-drop n old k 0))
+
+-- one byte is written
+pub differs-set : (bytes : List ℕ) (at byte : ℕ) → DiffersOnlyWithin bytes (set bytes at byte) at (at + 1)
+differs-set bytes at byte = record {
+  same_length = length-set bytes at byte;
+  before = λ k h. get_or-set_other bytes at k byte 0 (omega arith);
+  after = λ k h. get_or-set_other bytes at k byte 0 (omega arith);
+}
+
+pub slice_range-above : {old new : List ℕ} {from to : ℕ} → DiffersOnlyWithin old new from to → (start end : ℕ) → to ≤ start → slice_range new start end ≡ slice_range old start end
+slice_range-above d start end above = ap (take (end - start)) (drop-above d start above)
+
+pub slice_range-below : {old new : List ℕ} {from to : ℕ} → DiffersOnlyWithin old new from to → (start end : ℕ) → end ≤ from → slice_range new start end ≡ slice_range old start end
+slice_range-below {old} {new} d start end below =
+    between_is new start end ∙ ap (drop start) (take-below d end below) ∙ sym (between_is old start end)
