@@ -5,6 +5,7 @@ use Rattle.page_spec.specs.Bytes.{u16_at, u32_at}
 use Rattle.page_spec.specs.Header.{HeaderFields, fields_of, page_size_in, pages_in, spelled_page_size, is_page_size, is_database, has_page_size, has_versions, is_utf8, is_without_auto_vacuum, has_usable_bytes, has_schema_format, is_within_limit, IsHeader}
 use Rattle.db_header.specs.Header.{refusal, tests_of, header_of, TellsHeader, IsTold}
 use Rattle.db_header.specs.declared.header.Header.{Header}
+use Rattle.db_header.specs.declared.fault.HeaderFault.{HeaderFault}
 use Rattle.db_header.specs.declared.fault.HeaderFault.TheVariants.{NotADb, PageSize, Versions, Utf16, AutoVacuum, Reserved, Format, TooLarge}
 
 -- the tests of a header pass up to the page size, the versions, the encoding, and so on
@@ -110,8 +111,14 @@ unfolding refusal tests_of fields_of has_usable_bytes
 refused_usable first file_size p h =
     let e = p.before in
     let v = e.before in
-    rw (v.before.database, v.before.page_size, versions_pass first v, utf8_pass first e, vacuum_pass first p,
-      le_false (get_or first 20 0 + 480) (spelled_page_size (u16_at first 16)) h) refl
+    rw (
+      v.before.database,
+      v.before.page_size,
+      versions_pass first v,
+      utf8_pass first e,
+      vacuum_pass first p,
+      le_false (get_or first 20 0 + 480) (spelled_page_size (u16_at first 16)) h,
+    ) refl
 
 pub refused_format : (first : List ℕ) (file_size : ℕ) → PassesUsable first → 4 < u32_at first 44
     → refusal first file_size ≡ Some (Format (u32_at first 44))
@@ -120,8 +127,15 @@ refused_format first file_size p h =
     let a = p.before in
     let e = a.before in
     let v = e.before in
-    rw (v.before.database, v.before.page_size, versions_pass first v, utf8_pass first e, vacuum_pass first a,
-      usable_pass first p, le_false (u32_at first 44) 4 h) refl
+    rw (
+      v.before.database,
+      v.before.page_size,
+      versions_pass first v,
+      utf8_pass first e,
+      vacuum_pass first a,
+      usable_pass first p,
+      le_false (u32_at first 44) 4 h,
+    ) refl
 
 -- the answer where only the limit is left to be tested
 limit_left : (first : List ℕ) (file_size : ℕ) → PassesFormat first
@@ -132,8 +146,15 @@ limit_left first file_size p =
     let a = u.before in
     let e = a.before in
     let v = e.before in
-    rw (v.before.database, size_pass first v.before, versions_pass first v, utf8_pass first e, vacuum_pass first a,
-      usable_pass first u, format_pass first p) refl
+    rw (
+      v.before.database,
+      size_pass first v.before,
+      versions_pass first v,
+      utf8_pass first e,
+      vacuum_pass first a,
+      usable_pass first u,
+      format_pass first p,
+    ) refl
 
 pub refused_limit : (first : List ℕ) (file_size : ℕ) → PassesFormat first → 2 ^ 30 < pages_in first file_size * page_size_in (fields_of first)
     → refusal first file_size ≡ Some (TooLarge (pages_in first file_size))
@@ -202,3 +223,23 @@ usable_from r s h = omega arith
 
 pub unusable_from : {reserved wide size spelled : ℕ} → wide ≡ reserved → size ≡ spelled → size < wide + 480 → spelled < reserved + 480
 unusable_from r s h = omega arith
+
+-- the bytes are a header within the limit
+abbrev pub IsWithin : List ℕ → ℕ → Type 0
+IsWithin first file_size = IsHeader first × (pages_in first file_size * page_size_in (fields_of first) ≤ 2 ^ 30)
+
+accepted_within : (first : List ℕ) (file_size : ℕ) → IsWithin first file_size → refusal first file_size ≡ None
+unfolding refusal tests_of is_within_limit
+accepted_within first file_size (h, within) =
+    rw (h.database, h.page_size, h.versions, h.utf8, h.without_auto_vacuum, h.usable_bytes, h.schema_format,
+      le_true (pages_in first file_size * page_size_in (fields_of first)) (2 ^ 30) within) refl
+
+-- a header that is refused isn't one within the limit
+pub refused_iff : (first : List ℕ) (file_size : ℕ) (fault : HeaderFault) → refusal first file_size ≡ Some fault
+    → (false ≡ true → IsWithin first file_size) × (IsWithin first file_size → false ≡ true)
+refused_iff first file_size fault told =
+    (λ no. cc, λ within. let none = accepted_within first file_size within in cc)
+
+pub accepted_iff : (first : List ℕ) (file_size : ℕ) → PassesFormat first → pages_in first file_size * page_size_in (fields_of first) ≤ 2 ^ 30
+    → (true ≡ true → IsWithin first file_size) × (IsWithin first file_size → true ≡ true)
+accepted_iff first file_size p within = (λ yes. (header_passes first p, within), λ is. refl)

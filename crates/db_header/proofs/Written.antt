@@ -58,10 +58,10 @@ passes_written first header w told =
       least = rw (w.read_version, ← told.same_versions) told.least_version;
       greatest = rw (w.read_version, ← told.same_versions) told.greatest_version;
     } in
-    let encoding : PassesEncoding first = record { before = versions; encoding = rw (w.encoding, told.encoding) (omega arith); } in
-    let vacuum : PassesVacuum first = record { before = encoding; largest_root = w.largest_root; } in
-    let usable : PassesUsable first = record { before = vacuum; usable = rw (w.reserved, w.page_size) told.usable_bytes; } in
-    record { before = usable; format = rw w.format told.format; }
+    let encoding : PassesEncoding first = record { before = versions; encoding = rw (w.encoding, told.encoding) (omega arith) } in
+    let vacuum : PassesVacuum first = record { before = encoding; largest_root = w.largest_root } in
+    let usable : PassesUsable first = record { before = vacuum; usable = rw (w.reserved, w.page_size) told.usable_bytes } in
+    record { before = usable; format = rw w.format told.format }
 
 header_written : (first : List ℕ) (file_size : ℕ) (header : Header) → Written first header → IsTold header → pages_in first file_size ≡ header.pages
     → header_of first file_size ≡ header

@@ -7,10 +7,9 @@
 mod fault;
 mod header;
 mod read;
-mod write;
-
 #[cfg(test)]
 mod tests;
+mod write;
 
 pub use fault::HeaderFault;
 pub use header::Header;

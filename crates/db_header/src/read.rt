@@ -2,10 +2,9 @@ ghost use Rattle.std.specs.Prelude.{◌≡◌, ◌*◌, ◌^◌, ◌<◌, ◌≤
 ghost use Rattle.page_spec.specs.Header.{fields_of, page_size_in, pages_in, spelled_page_size, is_page_size, is_database, IsHeader};
 ghost use Rattle.db_header.specs.Header.{refusal, header_of, TellsHeader, IsTold};
 
-use be_fields::{get_u16, get_u32};
-
 use crate::fault::HeaderFault;
 use crate::header::Header;
+use be_fields::{get_u16, get_u32};
 
 /// The bytes that every database begins with.
 pub(crate) const DATABASE_TEXT: &[u8; 16] = b"SQLite format 3\0";
@@ -21,8 +20,9 @@ pub fn read_header(first: &[u8], file_size: u64) -> Result<Header, HeaderFault>
     ensures cases { MatchResult result
         (λ header. TellsHeader first.now file_size header)
         (λ fault. refusal first.now file_size ≡ Some fault) }
+    ensures accepted { IsOk result
+        ↔ IsHeader first.now × (pages_in first.now file_size * page_size_in (fields_of first.now) ≤ 2 ^ 30) }
     ensures told { IfOk result (λ header. IsTold header) }
-    ensures header { OnOk result (IsHeader first.now) }
 {
     if !is_database(first) {
         return Err(HeaderFault::NotADb);

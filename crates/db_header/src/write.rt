@@ -3,10 +3,9 @@ ghost use Rattle.page_spec.specs.Bytes.{u16_at, u32_at, DiffersOnlyWithin};
 ghost use Rattle.page_spec.specs.Header.{KeepsUnlisted, database_text, is_page_size, spelled_page_size};
 ghost use Rattle.db_header.specs.Header.{TellsHeader, IsTold};
 
-use be_fields::{put_u16, put_u32};
-
 use crate::header::Header;
 use crate::read::DATABASE_TEXT;
+use be_fields::{put_u16, put_u32};
 
 /// Writes a header over the first 100 bytes of page 1.
 ///
