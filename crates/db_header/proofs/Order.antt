@@ -1,10 +1,9 @@
 -- Each refusal in its place: the tests before it pass, and its own fails. Then what stands where all pass.
-use Rattle.std.proofs.Common.{◌≡◌, ℕ, ◌+◌, ◌*◌, ◌^◌, ◌<◌, ◌≤◌, ◌&&◌, Bool, true, false, List, refl, arith, Some, None, get_or, ◌==◌, nat_le, if◌then◌else◌}
+use Rattle.std.proofs.Common.{◌≡◌, ℕ, ◌+◌, ◌*◌, ◌^◌, ◌<◌, ◌≤◌, ◌&&◌, true, false, List, refl, arith, Some, None, get_or, ◌==◌, nat_le, if◌then◌else◌}
 use Rattle.std.proofs.lemmas.Bool.Decides.{nat_tests}
 use Rattle.page_spec.specs.Bytes.{u16_at, u32_at}
-use Rattle.page_spec.specs.Header.{HeaderFields, fields_of, page_size_in, pages_in, spelled_page_size, is_page_size, is_database, has_page_size, has_versions, is_utf8, is_without_auto_vacuum, has_usable_bytes, has_schema_format, is_within_limit, IsHeader}
-use Rattle.db_header.specs.Header.{refusal, tests_of, header_of, TellsHeader, IsTold}
-use Rattle.db_header.specs.declared.header.Header.{Header}
+use Rattle.page_spec.specs.Header.{fields_of, page_size_in, pages_in, spelled_page_size, is_page_size, is_database, has_page_size, has_versions, is_utf8, is_without_auto_vacuum, has_usable_bytes, has_schema_format, is_within_limit, IsHeader}
+use Rattle.db_header.specs.Header.{refusal, tests_of, header_of, IsTold}
 use Rattle.db_header.specs.declared.fault.HeaderFault.{HeaderFault}
 use Rattle.db_header.specs.declared.fault.HeaderFault.TheVariants.{NotADb, PageSize, Versions, Utf16, AutoVacuum, Reserved, Format, TooLarge}
 
@@ -231,8 +230,16 @@ IsWithin first file_size = IsHeader first × (pages_in first file_size * page_si
 accepted_within : (first : List ℕ) (file_size : ℕ) → IsWithin first file_size → refusal first file_size ≡ None
 unfolding refusal tests_of is_within_limit
 accepted_within first file_size (h, within) =
-    rw (h.database, h.page_size, h.versions, h.utf8, h.without_auto_vacuum, h.usable_bytes, h.schema_format,
-      le_true (pages_in first file_size * page_size_in (fields_of first)) (2 ^ 30) within) refl
+    rw (
+      h.database,
+      h.page_size,
+      h.versions,
+      h.utf8,
+      h.without_auto_vacuum,
+      h.usable_bytes,
+      h.schema_format,
+      le_true (pages_in first file_size * page_size_in (fields_of first)) (2 ^ 30) within,
+    ) refl
 
 -- a header that is refused isn't one within the limit
 pub refused_iff : (first : List ℕ) (file_size : ℕ) (fault : HeaderFault) → refusal first file_size ≡ Some fault

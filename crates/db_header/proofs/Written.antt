@@ -1,8 +1,8 @@
 -- What is written for a header is accepted, and tells that header, whatever the length of the file.
-use Rattle.std.proofs.Common.{◌≡◌, ℕ, ◌+◌, ◌/◌, ◌*◌, ◌^◌, ◌<◌, ◌≤◌, ◌&&◌, ◌==◌, Bool, true, false, List, length, take, refl, sym, ◌∙◌, arith, get_or, nat_lt, nat_le, nat_eq, if◌then◌else◌}
+use Rattle.std.proofs.Common.{◌≡◌, ℕ, ◌/◌, ◌<◌, ◌≤◌, ◌&&◌, ◌==◌, true, List, length, take, refl, sym, ◌∙◌, arith, get_or, nat_lt, nat_le, if◌then◌else◌}
 use Rattle.std.proofs.lemmas.Bool.Decides.{nat_tests}
 use Rattle.page_spec.specs.Bytes.{u16_at, u32_at}
-use Rattle.page_spec.specs.Header.{fields_of, page_size_in, pages_in, spelled_page_size, is_database, database_text}
+use Rattle.page_spec.specs.Header.{fields_of, pages_in, spelled_page_size, is_database, database_text}
 use Rattle.db_header.specs.Header.{header_of, TellsHeader, IsTold}
 use Rattle.db_header.specs.declared.header.Header.{Header}
 use Rattle.db_header.proofs.Order.{PassesSize, PassesVersions, PassesEncoding, PassesVacuum, PassesUsable, PassesFormat, accepted}

@@ -1,6 +1,6 @@
 -- What a header tells, and which fault a header that is refused is told as.
-use Rattle.std.specs.Prelude.{◌≡◌, ℕ, ◌+◌, ◌*◌, ◌^◌, ◌<◌, ◌≤◌, List, [], ◌∷◌, length, slice_index, Bool, ◌==◌, if◌then◌else◌, IsTrue, Option, Some, None, Result, Ok, Err}
-use Rattle.page_spec.specs.Header.{HeaderFields, fields_of, page_size_in, pages_in, is_page_size, is_database, has_page_size, has_versions, is_utf8, is_without_auto_vacuum, has_usable_bytes, has_schema_format, is_within_limit}
+use Rattle.std.specs.Prelude.{◌≡◌, ℕ, ◌+◌, ◌*◌, ◌^◌, ◌≤◌, List, [], ◌∷◌, Bool, ◌==◌, if◌then◌else◌, IsTrue, Option, Some, None}
+use Rattle.page_spec.specs.Header.{fields_of, page_size_in, pages_in, is_page_size, is_database, has_page_size, has_versions, is_utf8, is_without_auto_vacuum, has_usable_bytes, has_schema_format, is_within_limit}
 use Rattle.db_header.specs.declared.header.Header.{Header}
 use Rattle.db_header.specs.declared.fault.HeaderFault.{HeaderFault}
 use Rattle.db_header.specs.declared.fault.HeaderFault.TheVariants.{NotADb, PageSize, Versions, Utf16, AutoVacuum, Reserved, Format, TooLarge}

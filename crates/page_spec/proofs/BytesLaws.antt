@@ -1,5 +1,5 @@
 -- What two rows of bytes that differ only within some bounds have in common.
-use Rattle.std.proofs.Common.{ap, set, slice_range, length-set, ◌-◌, ◌≡◌, ℕ, ◌+◌, ◌≤◌, ◌<◌, List, length, get_or, take, drop, refl, sym, ◌∙◌, arith, length-drop, get_or-drop}
+use Rattle.std.proofs.Common.{ap, set, slice_range, length-set, ◌-◌, ◌≡◌, ℕ, ◌+◌, ◌≤◌, List, take, drop, refl, sym, ◌∙◌, arith, length-drop, get_or-drop}
 use Rattle.std.proofs.lemmas.List.{length-take, get_or-take, get_or-set_other}
 use Rattle.std.proofs.lemmas.Slice.{between_is}
 use Rattle.std.proofs.lemmas.Grind.{same_number_lists}

@@ -1,4 +1,4 @@
-use Rattle.std.proofs.Common.{arith, ◌+◌, ◌≡◌, ◌<◌, get_or, length, ◌∙◌, below_more, refl}
+use Rattle.std.proofs.Common.{arith, ◌+◌, ◌≡◌, get_or, below_more, refl}
 use Rattle.page_spec.proofs.VarintLaws.{carrying_ends, last_values_nine, last_values_less, carried_more}
 use Rattle.be_fields.proofs.Steps.{ends_here, high_fits, high_more}
 use Rattle.be_fields.proofs.varint.get_varint.Goals as goal

@@ -1,8 +1,8 @@
 -- The facts of the tests passed so far, then the lemma for the place at which the function returns.
-use Rattle.std.proofs.Common.{◌≡◌, ◌+◌, ◌*◌, ◌^◌, ◌<◌, ◌≤◌, ℕ, true, false, arith, rules, get_or, refl, sym, ◌∙◌}
+use Rattle.std.proofs.Common.{◌≡◌, arith, refl, sym, ◌∙◌}
 use Rattle.std.proofs.lemmas.Bool.{false_from_ne_true}
-use Rattle.page_spec.specs.Bytes.{u16_at, u32_at}
-use Rattle.page_spec.specs.Header.{is_database, is_page_size, spelled_page_size, fields_of, page_size_in, pages_in}
+use Rattle.page_spec.specs.Bytes.{u16_at}
+use Rattle.page_spec.specs.Header.{is_page_size, spelled_page_size}
 use Rattle.db_header.proofs.Order.{PassesSize, PassesVersions, PassesEncoding, PassesVacuum, PassesUsable, PassesFormat, refused_text, refused_size, refused_versions, refused_encoding, refused_vacuum, refused_usable, refused_format, refused_limit, accepted, page_size_read, refused_iff, accepted_iff, told_passes, text_encoding_read, usable_from, unusable_from}
 use Rattle.db_header.proofs.read.read_header.Goals as goal
 

@@ -1,4 +1,4 @@
-use Rattle.std.proofs.Common.{◌≡◌, ◌+◌, ◌≤◌, ◌∙◌, arith, take, length}
+use Rattle.std.proofs.Common.{◌∙◌, arith}
 use Rattle.page_spec.proofs.BytesLaws.{take-below, u16_at-below, u32_at-below, differs-trans, slice_range-above, slice_range-below, drop-above}
 use Rattle.db_header.proofs.Written.{Written, tells_written}
 use Rattle.db_header.proofs.write.write_header.Goals as goal

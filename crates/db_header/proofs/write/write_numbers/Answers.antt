@@ -1,4 +1,4 @@
-use Rattle.std.proofs.Common.{◌≡◌, ◌+◌, ◌≤◌, ◌∙◌, arith}
+use Rattle.std.proofs.Common.{◌∙◌, arith}
 use Rattle.page_spec.proofs.BytesLaws.{u32_at-below, differs-trans}
 use Rattle.db_header.proofs.write.write_numbers.Goals as goal
 

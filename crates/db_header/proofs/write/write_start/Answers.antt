@@ -1,4 +1,4 @@
-use Rattle.std.proofs.Common.{◌≡◌, ◌+◌, ◌≤◌, ◌∙◌, arith, take, drop, length, ℕ, List, set}
+use Rattle.std.proofs.Common.{◌∙◌, arith, drop, ℕ, List, set}
 use Rattle.std.proofs.lemmas.List.{length-take-le, take_at}
 use Rattle.page_spec.specs.Bytes.{DiffersOnlyWithin}
 use Rattle.page_spec.proofs.BytesLaws.{take-below, u16_at-below, differs-trans, differs-set}
