@@ -1,5 +1,5 @@
 -- Of two lists of frames that a log's bytes go on with, one is a front of the other. So there is one accepted list.
-use Rattle.std.proofs.Common.{◌≡◌, ◌≢◌, ℕ, ◌+◌, ◌≤◌, zero, suc, List, [], ◌∷◌, ◌++◌, length, take, drop, refl, sym, ◌∙◌, ap, arith, length-append}
+use Rattle.std.proofs.Common.{◌≡◌, ◌≢◌, ℕ, ◌+◌, ◌≤◌, zero, suc, List, [], ◌∷◌, ◌++◌, length, take, drop, refl, sym, ◌∙◌, ap, arith, length-append, take_all}
 use Rattle.std.specs.List.{concat}
 use Rattle.std.proofs.lemmas.List.{take_at, drop_at, take-take, drop-take}
 use Rattle.log_spec.specs.Checksum.{Sum}
@@ -45,3 +45,21 @@ committed_front bytes few more a b h =
     front_of (24 + (log_fields bytes).page_size) (drop header_size bytes) few more
     (valid_are_long (log_fields bytes) (log_fields bytes).sum few a.valid) (valid_are_long (log_fields bytes) (log_fields bytes).sum more b.valid)
     a.there b.there h
+
+take_none : (frames : List Frame) (n : ℕ) → length frames ≡ n → take n frames ≡ frames
+take_none frames n h = take_all n frames (omega arith)
+
+-- the bytes of a log have one accepted list
+pub accepted_is_one : (log : ℕ) (bytes : List ℕ) (one other : List Frame) → Accepted log bytes one → Accepted log bytes other → one ≡ other
+accepted_is_one log bytes [] [] a b = refl
+accepted_is_one log bytes [] (y ∷ ys) a b =
+    let longer = a.longest (y ∷ ys) (b.ours (λ no. cc)) (b.committed (λ no. cc)) in absurd (omega arith)
+accepted_is_one log bytes (x ∷ xs) [] a b =
+    let longer = b.longest (x ∷ xs) (a.ours (λ no. cc)) (a.committed (λ no. cc)) in absurd (omega arith)
+accepted_is_one log bytes (x ∷ xs) (y ∷ ys) a b =
+    let ours = a.ours (λ no. cc) in
+    let first = a.committed (λ no. cc) in
+    let second = b.committed (λ no. cc) in
+    let more = b.longest (x ∷ xs) ours first in
+    let less = a.longest (y ∷ ys) ours second in
+    committed_front bytes (x ∷ xs) (y ∷ ys) first second more ∙ take_none (y ∷ ys) (length (x ∷ xs)) (omega arith)

@@ -7,10 +7,9 @@
 mod header;
 mod read;
 mod sum;
-mod write;
-
 #[cfg(test)]
 mod tests;
+mod write;
 
 pub use header::{Front, LogHeader};
 pub use read::read_log_header;

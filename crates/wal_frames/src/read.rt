@@ -3,10 +3,9 @@ ghost use Rattle.page_spec.specs.Header.{is_page_size};
 ghost use Rattle.log_spec.specs.LogHeader.{is_signed, is_generation};
 ghost use Rattle.wal_frames.specs.Front.{front_of, header_in};
 
-use be_fields::get_u32;
-
 use crate::header::{Front, LogHeader};
 use crate::sum::{Sum, sum_step};
+use be_fields::get_u32;
 
 /// How many bytes a header has.
 pub(crate) const HEADER_SIZE: usize = 32;
@@ -61,7 +60,11 @@ fn is_signed(bytes: &[u8]) -> bool
     if magic != BIG_MAGIC && magic != LITTLE_MAGIC {
         return false;
     }
-    let sum = sum_step(Sum { s0: 0, s1: 0 }, magic == BIG_MAGIC, &bytes[..SUMMED_SIZE]);
+    let sum = sum_step(
+        Sum { s0: 0, s1: 0 },
+        magic == BIG_MAGIC,
+        &bytes[..SUMMED_SIZE],
+    );
     get_u32(bytes, 24) == sum.s0 && get_u32(bytes, 28) == sum.s1
 }
 
@@ -69,7 +72,10 @@ fn is_signed(bytes: &[u8]) -> bool
 fn is_page_size(size: u32) -> bool
     ensures { result ≡ is_page_size size }
 {
-    matches!(size, 512 | 1024 | 2048 | 4096 | 8192 | 16384 | 32768 | 65536)
+    matches!(
+        size,
+        512 | 1024 | 2048 | 4096 | 8192 | 16384 | 32768 | 65536
+    )
 }
 
 #[tactic(auto, unfolding(log_spec::specs::LogHeader::is_generation))]
@@ -81,7 +87,7 @@ fn is_generation(log: u8, generation: u32) -> bool
 }
 
 /// What a header tells.
-#[tactic(auto, unfolding(log_spec::specs::LogHeader::log_fields))]
+#[tactic(auto, unfolding(log_spec::specs::LogHeader::log_fields, crate::specs::Front::header_in))]
 fn header_in(bytes: &[u8]) -> LogHeader
     requires { 32 ≤ length bytes.now }
     ensures { result ≡ header_in bytes.now }

@@ -20,8 +20,12 @@ pub fn sum_step(sum: Sum, big: bool, bytes: &[u8]) -> Sum
     let mut s0 = sum.s0;
     let mut s1 = sum.s1;
     for pair in 0..bytes.len() / 8 {
-        s0 = s0.wrapping_add(word_at(big, bytes, 8 * pair)).wrapping_add(s1);
-        s1 = s1.wrapping_add(word_at(big, bytes, 8 * pair + 4)).wrapping_add(s0);
+        s0 = s0
+            .wrapping_add(word_at(big, bytes, 8 * pair))
+            .wrapping_add(s1);
+        s1 = s1
+            .wrapping_add(word_at(big, bytes, 8 * pair + 4))
+            .wrapping_add(s0);
     }
     Sum { s0, s1 }
 }
@@ -34,5 +38,9 @@ fn word_at(big: bool, bytes: &[u8], at: usize) -> u32
     ensures { result ≡ word_at big bytes.now at }
 {
     let word = [bytes[at], bytes[at + 1], bytes[at + 2], bytes[at + 3]];
-    if big { u32::from_be_bytes(word) } else { u32::from_le_bytes(word) }
+    if big {
+        u32::from_be_bytes(word)
+    } else {
+        u32::from_le_bytes(word)
+    }
 }

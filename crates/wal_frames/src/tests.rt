@@ -12,7 +12,10 @@ const STOCK: [(usize, &[u8]); 3] = [
 \x00\x00\x00\x02\x00\x00\x00\x00\x00\x00\x00\x00\x00\x00\x00\x01\x00\x00\x00\x04\x00\x00\x00\x00\
 \x00\x00\x00\x00\x00\x00\x00\x01",
     ),
-    (151, b"\x02\x00\x2e\x63\x01\x0d\x00\x00\x00\x01\x01\xdf\x00\x01\xdf"),
+    (
+        151,
+        b"\x02\x00\x2e\x63\x01\x0d\x00\x00\x00\x01\x01\xdf\x00\x01\xdf",
+    ),
     (
         535,
         b"\x1f\x01\x06\x17\x0f\x0f\x01\x2ftablett\x02CREATE TABLE t(a)\x00\x00\x00\x02\x00\x00\x00\x02\
@@ -34,7 +37,10 @@ const FIRST_HEADER: LogHeader = LogHeader {
     generation: 1,
     salt1: 1,
     salt2: 5,
-    sum: Sum { s0: 639461993, s1: 3618722952 },
+    sum: Sum {
+        s0: 639461993,
+        s1: 3618722952,
+    },
 };
 
 const GREATEST_HEADER: LogHeader = LogHeader {
@@ -43,7 +49,10 @@ const GREATEST_HEADER: LogHeader = LogHeader {
     generation: 4_000_000_000,
     salt1: 0xffff_fffe,
     salt2: 0xffff_ffff,
-    sum: Sum { s0: 1651739407, s1: 2037812139 },
+    sum: Sum {
+        s0: 1651739407,
+        s1: 2037812139,
+    },
 };
 
 const ZERO: Sum = Sum { s0: 0, s1: 0 };
@@ -52,7 +61,13 @@ const ZERO: Sum = Sum { s0: 0, s1: 0 };
 fn words_are_read_in_both_orders(rt: HostRuntime) {
     let bytes = b"\x00\x00\x00\x01\x00\x00\x00\x02\x00\x00\x00\x03\x00\x00\x00\x04";
     assert_eq!(rt; sum_step(ZERO, true, bytes), Sum { s0: 7, s1: 14 });
-    assert_eq!(rt; sum_step(ZERO, false, bytes), Sum { s0: 117440512, s1: 234881024 });
+    assert_eq!(rt;
+        sum_step(ZERO, false, bytes),
+        Sum {
+            s0: 117440512,
+            s1: 234881024
+        }
+    );
 }
 
 #[test]
@@ -62,19 +77,49 @@ fn a_stock_log_is_summed_frame_by_frame(rt: HostRuntime) {
         assert!(rt; at + piece.len() <= log.len());
         log[at..at + piece.len()].copy_from_slice(piece);
     }
-    assert_eq!(rt; read_log_header(&log, 1), Front::Foreign { version: 3007000, at: 4 });
+    assert_eq!(rt;
+        read_log_header(&log, 1),
+        Front::Foreign {
+            version: 3007000,
+            at: 4
+        }
+    );
     let mut sum = sum_step(ZERO, false, &log[..24]);
-    assert_eq!(rt; sum, Sum { s0: 0x4bc5_1480, s1: 0x725b_e3a3 });
+    assert_eq!(rt;
+        sum,
+        Sum {
+            s0: 0x4bc5_1480,
+            s1: 0x725b_e3a3
+        }
+    );
     sum = sum_step(sum_step(sum, false, &log[32..40]), false, &log[56..568]);
-    assert_eq!(rt; sum, Sum { s0: 0x910d_d398, s1: 0x1fdb_5a90 });
+    assert_eq!(rt;
+        sum,
+        Sum {
+            s0: 0x910d_d398,
+            s1: 0x1fdb_5a90
+        }
+    );
     sum = sum_step(sum_step(sum, false, &log[568..576]), false, &log[592..]);
-    assert_eq!(rt; sum, Sum { s0: 0x3190_1199, s1: 0x3aba_5d39 });
+    assert_eq!(rt;
+        sum,
+        Sum {
+            s0: 0x3190_1199,
+            s1: 0x3aba_5d39
+        }
+    );
 }
 
 #[test]
 fn headers_of_ours_are_written_and_read(rt: HostRuntime) {
-    assert_eq!(rt; write_log_header(&FIRST_HEADER).as_slice(), FIRST.as_slice());
-    assert_eq!(rt; write_log_header(&GREATEST_HEADER).as_slice(), GREATEST.as_slice());
+    assert_eq!(rt;
+        write_log_header(&FIRST_HEADER).as_slice(),
+        FIRST.as_slice()
+    );
+    assert_eq!(rt;
+        write_log_header(&GREATEST_HEADER).as_slice(),
+        GREATEST.as_slice()
+    );
     assert_eq!(rt; read_log_header(FIRST, 1), Front::Ours(FIRST_HEADER));
     assert_eq!(rt; read_log_header(GREATEST, 2), Front::Ours(GREATEST_HEADER));
 }
@@ -89,8 +134,20 @@ fn other_headers_are_nothing_or_foreign(rt: HostRuntime) {
         torn[at] = 0xff;
         assert_eq!(rt; read_log_header(&torn, 1), Front::Nothing);
     }
-    assert_eq!(rt; read_log_header(FIRST, 2), Front::Foreign { version: 93021000, at: 12 });
-    assert_eq!(rt; read_log_header(GREATEST, 1), Front::Foreign { version: 93021000, at: 12 });
+    assert_eq!(rt;
+        read_log_header(FIRST, 2),
+        Front::Foreign {
+            version: 93021000,
+            at: 12
+        }
+    );
+    assert_eq!(rt;
+        read_log_header(GREATEST, 1),
+        Front::Foreign {
+            version: 93021000,
+            at: 12
+        }
+    );
     let cases: [(u32, u32, u8, u64); 7] = [
         (1000, 1, 1, 8),
         (256, 1, 1, 8),
@@ -105,6 +162,12 @@ fn other_headers_are_nothing_or_foreign(rt: HostRuntime) {
         header.page_size = page_size;
         header.generation = generation;
         let bytes = write_log_header(&header);
-        assert_eq!(rt; read_log_header(&bytes, log), Front::Foreign { version: 93021000, at });
+        assert_eq!(rt;
+            read_log_header(&bytes, log),
+            Front::Foreign {
+                version: 93021000,
+                at
+            }
+        );
     }
 }

@@ -1,13 +1,12 @@
-ghost use Rattle.std.specs.Prelude.{◌≡◌, ℕ, IsTrue};
+ghost use Rattle.std.specs.Prelude.{◌≡◌, ℕ, IsTrue, if◌then◌else◌};
 ghost use Rattle.page_spec.specs.Header.{is_page_size};
-ghost use Rattle.log_spec.specs.LogHeader.{is_signed, is_generation, log_fields};
+ghost use Rattle.log_spec.specs.LogHeader.{is_signed, is_generation, log_fields, big_magic, little_magic};
 ghost use Rattle.wal_frames.specs.Front.{front_of, header_in, TellsLogHeader};
-
-use be_fields::put_u32;
 
 use crate::header::{Front, LogHeader};
 use crate::read::{BIG_MAGIC, LITTLE_MAGIC, OWN_VERSION, SUMMED_SIZE};
 use crate::sum::{Sum, sum_step};
+use be_fields::put_u32;
 
 /// The bytes of a header, with a checksum over them in the place of the one that `header` has.
 ///
@@ -19,7 +18,7 @@ pub fn write_log_header(header: &LogHeader) -> [u8; 32]
         → front_of log result ≡ Front.Ours (record header.now { sum = (header_in result).sum }) }
 {
     let mut bytes = [0u8; 32];
-    put_u32(&mut bytes, 0, if header.big { BIG_MAGIC } else { LITTLE_MAGIC });
+    put_u32(&mut bytes, 0, magic_of(header.big));
     put_u32(&mut bytes, 4, OWN_VERSION);
     put_u32(&mut bytes, 8, header.page_size);
     put_u32(&mut bytes, 12, header.generation);
@@ -29,4 +28,11 @@ pub fn write_log_header(header: &LogHeader) -> [u8; 32]
     put_u32(&mut bytes, 24, sum.s0);
     put_u32(&mut bytes, 28, sum.s1);
     bytes
+}
+
+/// The number that a log begins with, by the order in which its words are read.
+fn magic_of(big: bool) -> u32
+    ensures { result ≡ (if big then big_magic else little_magic) }
+{
+    if big { BIG_MAGIC } else { LITTLE_MAGIC }
 }
