@@ -1,6 +1,6 @@
 -- The frames of a log that are accepted, said of the whole list of its bytes.
-use Rattle.std.specs.Prelude.{◌≡◌, ◌≢◌, ℕ, ◌+◌, ◌≤◌, List, [], ◌∷◌, ◌++◌, length, take, drop}
-use Rattle.std.specs.List.{concat}
+use Rattle.std.specs.Prelude.{◌≡◌, ◌≢◌, ℕ, ◌+◌, ◌≤◌, List, [], ◌∷◌, ◌++◌, length, map, take, drop}
+use Rattle.std.specs.List.{concat, fold}
 use Rattle.page_spec.specs.Bytes.{u32_at}
 use Rattle.log_spec.specs.Checksum.{Sum, checksum}
 use Rattle.log_spec.specs.LogHeader.{LogFields, log_fields, is_big, IsOurs, header_size}
@@ -38,21 +38,31 @@ abbrev pub AreValidFrames : LogFields → Sum → List Frame → Type 0
 AreValidFrames header sum [] = Unit {0}
 AreValidFrames header sum (frame ∷ rest) = IsValidFrame header sum frame × AreValidFrames header (sum_after header sum frame) rest
 
--- the last frame ends a commit; said of no frames, it holds
-abbrev pub EndsInCommit : List Frame → Type 0
-EndsInCommit [] = Unit {0}
-EndsInCommit (frame ∷ []) = commit_size frame ≢ 0
-EndsInCommit (frame ∷ next ∷ rest) = EndsInCommit (next ∷ rest)
+-- the checksum after all of some frames
+abbrev pub sum_of_frames : LogFields → Sum → List Frame → Sum
+sum_of_frames header sum frames = fold (sum_after header) sum frames
 
--- the log's bytes go on, after their header, with these frames, each valid, of which the last ends a commit
-pub record CommittedFrames (bytes : List ℕ) (frames : List Frame) : Type 0 where
-  pub there : take (length (concat frames)) (drop header_size bytes) ≡ concat frames
+-- the commit size of the last frame, 0 where there is none
+abbrev pub last_size : List Frame → ℕ
+last_size frames = fold (λ size frame. commit_size frame) 0 frames
+
+-- the numbers of the pages that the frames hold
+abbrev pub page_numbers : List Frame → List ℕ
+page_numbers frames = map page_number frames
+
+-- the log's bytes go on, after their header, with these frames
+abbrev pub AreThere : List ℕ → List Frame → Type 0
+AreThere bytes frames = take (length (concat frames)) (drop header_size bytes) ≡ concat frames
+
+-- the log's bytes go on with these frames, each is valid, and the last one, where there is one, ends a commit
+pub record AreCommitted (bytes : List ℕ) (frames : List Frame) : Type 0 where
+  pub there : AreThere bytes frames
   pub valid : AreValidFrames (log_fields bytes) (log_fields bytes).sum frames
-  pub committed : EndsInCommit frames
+  pub committed : frames ≢ [] → last_size frames ≢ 0
 
 -- The frames that are accepted of the bytes of log 1 or log 2: none where its header isn't ours, and else the longest list of
--- frames that ends a commit.
+-- frames that are committed.
 pub record Accepted (log : ℕ) (bytes : List ℕ) (frames : List Frame) : Type 0 where
   pub ours : frames ≢ [] → IsOurs log bytes
-  pub committed : frames ≢ [] → CommittedFrames bytes frames
-  pub longest : (longer : List Frame) → IsOurs log bytes → CommittedFrames bytes longer → length longer ≤ length frames
+  pub committed : AreCommitted bytes frames
+  pub longest : (longer : List Frame) → IsOurs log bytes → AreCommitted bytes longer → length longer ≤ length frames
