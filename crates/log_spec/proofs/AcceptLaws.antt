@@ -6,7 +6,7 @@ use Rattle.std.proofs.lemmas.List.{take_at, drop_at, take-take, drop-take, take-
 use Rattle.std.proofs.lemmas.List.Folds.{concat-append}
 use Rattle.log_spec.specs.Checksum.{Sum}
 use Rattle.log_spec.specs.LogHeader.{LogFields, log_fields, IsOurs, header_size}
-use Rattle.log_spec.specs.Accept.{Frame, AreValidFrames, AreThere, AreCommitted, Accepted, sum_after, sum_of_frames, last_size, commit_size, IsValidFrame}
+use Rattle.log_spec.specs.Accept.{Frame, AreValidFrames, AreThere, Accepted, sum_after, sum_of_frames, last_size, IsValidFrame}
 
 -- where a row begins with two pieces, it begins with the first, and goes on with the second
 first_piece : (x xs rest : List ℕ) → take (length (x ++ xs)) rest ≡ x ++ xs → take (length x) rest ≡ x
@@ -32,7 +32,7 @@ front_of size rest (x ∷ xs) [] a b p q h = absurd (omega arith)
 front_of size rest (x ∷ xs) (y ∷ ys) (a, few_long) (b, more_long) p q h =
     let same : x ≡ y = sym (first_piece x (concat xs) rest p) ∙ ap (λ (n : ℕ). take n rest) (a ∙ sym b) ∙ first_piece y (concat ys) rest q in
     let others : take (length (concat ys)) (drop (length x) rest) ≡ concat ys =
-        ap (λ (n : ℕ). take (length (concat ys)) (drop n rest)) (a ∙ sym b) ∙ second_piece y (concat ys) rest q in
+    ap (λ (n : ℕ). take (length (concat ys)) (drop n rest)) (a ∙ sym b) ∙ second_piece y (concat ys) rest q in
     let tail = front_of size (drop (length x) rest) xs ys few_long more_long (second_piece x (concat xs) rest p) others (omega arith) in
     cc
 
@@ -119,7 +119,7 @@ goes_on frames longer same less =
 pub accepted_from_scan : (log : ℕ) (bytes : List ℕ) (frames : List Frame) (kept : ℕ) → IsOurs log bytes
     → AreThere bytes frames → AreValidFrames (log_fields bytes) (log_fields bytes).sum frames
     → ((frame : Frame) → take (length frame) (drop (length (concat frames)) (drop header_size bytes)) ≡ frame
-      → IsValidFrame (log_fields bytes) (sum_of_frames (log_fields bytes) (log_fields bytes).sum frames) frame → ⊥)
+    → IsValidFrame (log_fields bytes) (sum_of_frames (log_fields bytes) (log_fields bytes).sum frames) frame → ⊥)
     → kept ≤ length frames → (0 < kept → last_size (take kept frames) ≢ 0)
     → ((n : ℕ) → kept < n → n ≤ length frames → last_size (take n frames) ≡ 0)
     → Accepted log bytes (take kept frames)
@@ -134,22 +134,22 @@ accepted_from_scan log bytes frames kept ours there valid stops within ends othe
         committed = λ some. ends (some_kept kept frames some);
       };
       longest = λ longer own is.
-        elim (cases_lt (length frames) (length longer)) [
-          inl more ↦
-            let same = valid_front bytes frames longer there is.there valid is.valid (omega arith) in
-            let whole = goes_on frames longer same more in
-            let next = get_or longer (length frames) [] in
-            let after = drop (suc (length frames)) longer in
-            absurd (stops next (there_next bytes frames next after (rw whole at is.there)) (valid_next header header.sum frames next after (rw whole at is.valid)))
-        | inr few ↦
-            elim (cases_lt kept (length longer)) [
-              inl past ↦
-                let same = valid_front bytes longer frames is.there there is.valid valid few in
-                let none = others (length longer) past few in
-                absurd (is.committed (λ empty. not_empty longer past empty) (ap last_size same ∙ none))
-            | inr enough ↦ omega arith
-            ]
-        ];
+          elim (cases_lt (length frames) (length longer)) [
+            | inl more ↦
+                let same = valid_front bytes frames longer there is.there valid is.valid (omega arith) in
+                let whole = goes_on frames longer same more in
+                let next = get_or longer (length frames) [] in
+                let after = drop (suc (length frames)) longer in
+                absurd (stops next (there_next bytes frames next after (rw whole at is.there)) (valid_next header header.sum frames next after (rw whole at is.valid)))
+            | inr few ↦
+                elim (cases_lt kept (length longer)) [
+                  | inl past ↦
+                      let same = valid_front bytes longer frames is.there there is.valid valid few in
+                      let none = others (length longer) past few in
+                      absurd (is.committed (λ empty. not_empty longer past empty) (ap last_size same ∙ none))
+                  | inr enough ↦ omega arith
+                ]
+          ];
     }
   where
     not_empty : (longer : List Frame) → kept < length longer → longer ≡ [] → ⊥

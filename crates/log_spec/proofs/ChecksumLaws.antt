@@ -1,5 +1,5 @@
 -- Laws of the checksum.
-use Rattle.std.proofs.Common.{◌≡◌, ℕ, ◌+◌, ◌*◌, ◌/◌, ◌%◌, ◌^◌, ◌≤◌, ◌<◌, zero, suc, Bool, true, false, List, ◌++◌, length, get_or, refl, sym, ◌∙◌, ap, arith, add-one, length-append, get_or-append-add, add-zero, add-suc}
+use Rattle.std.proofs.Common.{◌≡◌, ℕ, ◌+◌, ◌*◌, ◌/◌, ◌%◌, ◌≤◌, zero, suc, Bool, List, ◌++◌, length, get_or, refl, ◌∙◌, ap, arith, add-one, length-append, get_or-append-add, add-zero, add-suc}
 use Rattle.std.proofs.lemmas.List.{get_or_append_left}
 use Rattle.page_spec.specs.Bytes.{u32_at}
 use Rattle.log_spec.specs.Checksum.{Sum, word_at, pair_step, sum_of_pairs, checksum}
@@ -22,8 +22,12 @@ checksum-is big sum bytes = refl
 word_at-front : (big : Bool) (xs ys : List ℕ) (at : ℕ) → at + 4 ≤ length xs → word_at big (xs ++ ys) at ≡ word_at big xs at
 unfolding word_at u32_at
 word_at-front big xs ys at within =
-    rw (get_or_append_left xs ys 0 at (omega arith), get_or_append_left xs ys 0 (at + 1) (omega arith),
-      get_or_append_left xs ys 0 (at + 2) (omega arith), get_or_append_left xs ys 0 (at + 3) (omega arith)) refl
+    rw (
+      get_or_append_left xs ys 0 at (omega arith),
+      get_or_append_left xs ys 0 (at + 1) (omega arith),
+      get_or_append_left xs ys 0 (at + 2) (omega arith),
+      get_or_append_left xs ys 0 (at + 3) (omega arith),
+    ) refl
 
 word_at-after : (big : Bool) (xs ys : List ℕ) (at : ℕ) → word_at big (xs ++ ys) (length xs + at) ≡ word_at big ys at
 unfolding word_at u32_at
@@ -49,8 +53,14 @@ sum_of_pairs-after big sum xs ys first zero whole = rw (add-zero first) (sum_of_
 sum_of_pairs-after big sum xs ys first (suc count) whole =
     let one : 8 * (first + count) ≡ length xs + 8 * count = omega arith in
     let two : 8 * (first + count) + 4 ≡ length xs + (8 * count + 4) = omega arith in
-    rw (add-suc first count, sum_of_pairs-after big sum xs ys first count whole, two, one,
-      word_at-after big xs ys (8 * count), word_at-after big xs ys (8 * count + 4)) refl
+    rw (
+      add-suc first count,
+      sum_of_pairs-after big sum xs ys first count whole,
+      two,
+      one,
+      word_at-after big xs ys (8 * count),
+      word_at-after big xs ys (8 * count + 4),
+    ) refl
 
 -- the checksum of two rows of bytes, the first a multiple of 8, goes on from that of the first
 pub checksum-append : (big : Bool) (sum : Sum) (xs ys : List ℕ) → length xs % 8 ≡ 0

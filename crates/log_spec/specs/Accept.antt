@@ -1,5 +1,5 @@
 -- The frames of a log that are accepted, said of the whole list of its bytes.
-use Rattle.std.specs.Prelude.{◌≡◌, ◌≢◌, ℕ, ◌+◌, ◌≤◌, List, [], ◌∷◌, ◌++◌, length, map, take, drop}
+use Rattle.std.specs.Prelude.{◌≡◌, ◌≢◌, ℕ, ◌+◌, ◌≤◌, List, [], ◌∷◌, length, map, take, drop}
 use Rattle.std.specs.List.{concat, fold}
 use Rattle.page_spec.specs.Bytes.{u32_at}
 use Rattle.log_spec.specs.Checksum.{Sum, checksum}
