@@ -251,11 +251,11 @@ varint_parts bytes whole =
     rw count (
       omega (arith, length-take 8 bytes),
       (λ k below.
-        let passes = prefix_len_passes (nat_le 128) first k 0 below in
-        rw (get_or-take 8 bytes k 0 (omega (arith, length-take 8 bytes))) at (true_le 128 (get_or first k 0) passes)),
+          let passes = prefix_len_passes (nat_le 128) first k 0 below in
+          rw (get_or-take 8 bytes k 0 (omega (arith, length-take 8 bytes))) at (true_le 128 (get_or first k 0) passes)),
       (λ less.
-        let stop = prefix_len_stops (nat_le 128) first 0 (omega (arith, length-take 8 bytes)) in
-        rw (get_or-take 8 bytes i 0 less) at (false_le 128 (get_or first i 0) stop)),
+          let stop = prefix_len_stops (nat_le 128) first 0 (omega (arith, length-take 8 bytes)) in
+          rw (get_or-take 8 bytes i 0 less) at (false_le 128 (get_or first i 0) stop)),
     )
 
 -- what follows a whole varint changes nothing
@@ -267,8 +267,8 @@ begins_append bytes more number size b =
     let low : i < length bytes = omega (arith, varint_size_positive bytes) in
     let alone = varint_is bytes i parts.0 low parts.1 parts.2 in
     let longer = varint_is (bytes ++ more) i parts.0 (omega (arith, length-append bytes more))
-        (λ k below. rw (get_or_append_left bytes more 0 k (omega arith)) (parts.1 k below))
-        (λ less. rw (get_or_append_left bytes more 0 i low) (parts.2 less)) in
+    (λ k below. rw (get_or_append_left bytes more 0 k (omega arith)) (parts.1 k below))
+    (λ less. rw (get_or_append_left bytes more 0 i low) (parts.2 less)) in
     let same = rw (take-append-le i bytes more (omega arith), get_or_append_left bytes more 0 i low) at longer in
     record {
       spelled = same.spelled ∙ sym alone.spelled ∙ b.spelled;
