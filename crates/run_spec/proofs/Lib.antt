@@ -3,3 +3,4 @@ pub mod PageSets
 pub mod Laying
 pub mod Transactions
 pub mod GoodLines
+pub mod Alone
