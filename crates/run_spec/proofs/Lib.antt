@@ -4,3 +4,4 @@ pub mod Laying
 pub mod Transactions
 pub mod GoodLines
 pub mod Alone
+pub mod SerialLaw
