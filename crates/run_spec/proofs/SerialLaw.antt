@@ -22,7 +22,7 @@ use Rattle.run_spec.specs.Change.{laid}
 use Rattle.run_spec.specs.History.{counts, is_written, conflict, NoConflict}
 use Rattle.run_spec.specs.Seen.{commit_of}
 use Rattle.run_spec.specs.World.{World, SessionState, Out, Open, Refused, Transaction, changed_at, map_number, newest_map, change_of, submitted, moved, begin, committed, decided, commit, begin_step, read_step, write_step, commit_step, rollback_step, step, after, world_over, zeros, start}
-use Rattle.run_spec.specs.Serial.{IsSerialCommit, IsAtSnapshot, SeesSnapshot, IsSerial, IsInRange, AreInRange}
+use Rattle.run_spec.specs.Serial.{IsSerialCommit, IsAtSnapshot, SeesSnapshot, IsSerial, IsSerialFrom, IsInRange, AreInRange}
 use Rattle.run_spec.proofs.Conflicts.{no_conflict}
 use Rattle.run_spec.proofs.Laying.{IsWhole, page_at-length, laid-put, laid-page_size, put_pages-at, agree_refl, agree_trans, agree_laid}
 use Rattle.run_spec.proofs.GoodLines.{legal_size, lines_whole, laid-store}
@@ -42,9 +42,10 @@ IsHeld s maps (Open transaction) =
 IsHeld s maps (Refused transaction) =
     (transaction.snap < length maps) × IsTied s (slice_index_or maps transaction.snap []) transaction
 
--- What each world of page lines keeps: one map more than commits, answers for each commit, all maps page stores with pages of s
+-- What each world of page lines over this first map keeps: one map more than commits, answers for each commit, all maps page stores with pages of s
 -- bytes, each commit leading from one map to the next, and each transaction tied to its snapshot.
-pub record IsWorld (s : ℕ) (world : World) : Type 0 where
+pub record IsWorld (s : ℕ) (first : PageMap) (world : World) : Type 0 where
+  pub begins : slice_get world.maps 0 ≡ Some first
   pub maps_count : length world.maps ≡ length world.history + 1
   pub answers_count : length world.answers ≡ length world.history
   pub stores : All (IsStore s) world.maps
@@ -75,6 +76,13 @@ last_of xs x k y last found =
 inside : {X : Type 0} (xs : List X) (i : ℕ) (x : X) → slice_get xs i ≡ Some x → i < length xs
 inside xs i x found =
     elim ((slice_get_cases xs i).1) [ inl here ↦ here.1 | inr past ↦ absurd (let e : Some x ≡ None = sym found ∙ past.1 in cc) ]
+
+-- the first of a list with one more stays the first
+first_stays : {X : Type 0} (xs : List X) (x first : X) → slice_get xs 0 ≡ Some first → slice_get (xs ++ x ∷ []) 0 ≡ Some first
+first_stays xs x first found =
+    let within : 0 < length xs = inside xs 0 first found in
+    slice_get-get_or (xs ++ x ∷ []) 0 first (omega (arith, length-append xs (x ∷ [])))
+    ∙ ap Some (get_or_append_left xs (x ∷ []) first 0 within ∙ get_or_from_slice_get xs 0 first first found)
 
 -- what holds of each commit with its maps and answers holds with one commit more, if it holds of that
 pushed : (P : ℕ → PageMap → Commit → List Told → PageMap → Type 0) (maps : List PageMap) (history : List Commit)
@@ -111,16 +119,16 @@ uncounted_at mode page (commit ∷ commits) none (suc k) d within =
     uncounted_at mode page commits (or_parts (counts mode page commit) (list_any (counts mode page) commits) none).1 k d (omega arith)
 
 -- a map agrees with one of d commits later on pages that none of these wrote
-agree_steps : (s : ℕ) (world : World) → IsWorld s world → (numbers : List ℕ) (n d : ℕ) → n + d ≤ length world.history
+agree_steps : (s : ℕ) (first : PageMap) (world : World) → IsWorld s first world → (numbers : List ℕ) (n d : ℕ) → n + d ≤ length world.history
     → ((q k : ℕ) (commit : Commit) → Contains numbers q → n ≤ k → k < n + d → slice_get world.history k ≡ Some commit
         → counts Concurrent q commit ≡ false)
     → Agree (get_or world.maps n []) (get_or world.maps (n + d) []) numbers
-agree_steps s world whole numbers n zero within left =
+agree_steps s first world whole numbers n zero within left =
     subst (λ (m : ℕ). Agree (get_or world.maps n []) (get_or world.maps m []) numbers) (sym (add-zero n))
     (agree_refl (get_or world.maps n []) numbers)
-agree_steps s world whole numbers n (suc d) within left =
+agree_steps s first world whole numbers n (suc d) within left =
     let before : Agree (get_or world.maps n []) (get_or world.maps (n + d) []) numbers =
-    agree_steps s world whole numbers n d (omega arith) (λ q k commit there low high. left q k commit there low (omega arith)) in
+    agree_steps s first world whole numbers n d (omega arith) (λ q k commit there low high. left q k commit there low (omega arith)) in
     let here = found_at world.history (n + d) (omega arith) in
     let told = found_at world.answers (n + d) (omega (arith, whole.answers_count)) in
     let old : slice_get world.maps (n + d) ≡ Some (get_or world.maps (n + d) []) =
@@ -135,12 +143,12 @@ agree_steps s world whole numbers n (suc d) within left =
     (agree_trans (get_or world.maps n []) (get_or world.maps (n + d) []) (get_or world.maps (n + d + 1) []) numbers before one)
 
 -- a map agrees with the newest one on pages that no later commit wrote
-agree_since : (s : ℕ) (world : World) → IsWorld s world → (n : ℕ) → n ≤ length world.history → (numbers : List ℕ)
+agree_since : (s : ℕ) (first : PageMap) (world : World) → IsWorld s first world → (n : ℕ) → n ≤ length world.history → (numbers : List ℕ)
     → NoConflict Concurrent numbers n world.history → Agree (map_number world n) (newest_map world) numbers
-agree_since s world whole n within numbers none =
+agree_since s first world whole n within numbers none =
     let rest : n + (length world.history - n) ≡ length world.history = omega arith in
     subst (λ (m : ℕ). Agree (get_or world.maps n []) (get_or world.maps m []) numbers) rest
-    (agree_steps s world whole numbers n (length world.history - n) (omega arith)
+    (agree_steps s first world whole numbers n (length world.history - n) (omega arith)
     (λ q k commit there low high found.
         let apart : k ≡ n + (k - n) = omega arith in
         let left : counts Concurrent q (get_or (drop n world.history) (k - n) commit) ≡ false =
@@ -217,9 +225,10 @@ held_changed s maps sessions session state here others other = by_test (eqb othe
     by_test false = others other
 
 -- a world in which a session's state changed
-moved_keeps : (s : ℕ) (world : World) (session : ℕ) (state : SessionState) (answer : Told) → IsHeld s world.maps state
-    → IsWorld s world → IsWorld s (moved world session state answer).world
-moved_keeps s world session state answer here whole = record {
+moved_keeps : (s : ℕ) (first : PageMap) (world : World) (session : ℕ) (state : SessionState) (answer : Told) → IsHeld s world.maps state
+    → IsWorld s first world → IsWorld s first (moved world session state answer).world
+moved_keeps s first world session state answer here whole = record {
+  begins = whole.begins;
   maps_count = whole.maps_count;
   answers_count = whole.answers_count;
   stores = whole.stores;
@@ -228,9 +237,10 @@ moved_keeps s world session state answer here whole = record {
 }
 
 -- BEGIN
-begin_keeps : (s : ℕ) (world : World) (session : ℕ) (state : SessionState) → IsWorld s world
-    → IsWorld s (begin_step world session state).world
-begin_keeps s world session Out whole = record {
+begin_keeps : (s : ℕ) (first : PageMap) (world : World) (session : ℕ) (state : SessionState) → IsWorld s first world
+    → IsWorld s first (begin_step world session state).world
+begin_keeps s first world session Out whole = record {
+  begins = whole.begins;
   maps_count = whole.maps_count;
   answers_count = whole.answers_count;
   stores = whole.stores;
@@ -239,53 +249,56 @@ begin_keeps s world session Out whole = record {
       (Open (record { snap = length world.history; reads = []; changed = []; said = []; answers = []; wrote = false }))
       (omega (arith, whole.maps_count), tied_none s (length world.history) (newest_map world)) whole.held;
 }
-begin_keeps s world session (Open transaction) whole = whole
-begin_keeps s world session (Refused transaction) whole = whole
+begin_keeps s first world session (Open transaction) whole = whole
+begin_keeps s first world session (Refused transaction) whole = whole
 
 -- READ
-read_keeps : (s : ℕ) (world : World) (session page : ℕ) (state : SessionState) → 2 ≤ page → page ≤ 16
-    → IsHeld s world.maps state → IsWorld s world → IsWorld s (read_step world session page state).world
-read_keeps s world session page Out low high held whole = whole
-read_keeps s world session page (Open transaction) low high held whole = record {
+read_keeps : (s : ℕ) (first : PageMap) (world : World) (session page : ℕ) (state : SessionState) → 2 ≤ page → page ≤ 16
+    → IsHeld s world.maps state → IsWorld s first world → IsWorld s first (read_step world session page state).world
+read_keeps s first world session page Out low high held whole = whole
+read_keeps s first world session page (Open transaction) low high held whole = record {
+  begins = whole.begins;
   maps_count = whole.maps_count;
   answers_count = whole.answers_count;
   stores = whole.stores;
   follows = whole.follows;
   held = held_changed s world.maps world.sessions session _ (held.0, tied_read s world transaction page low high held.1) whole.held;
 }
-read_keeps s world session page (Refused transaction) low high held whole = whole
+read_keeps s first world session page (Refused transaction) low high held whole = whole
 
 -- the newest map is a page store
-newest_store : (s : ℕ) (world : World) → IsWorld s world → IsStore s (newest_map world)
-newest_store s world whole = whole.stores (length world.history) [] (omega (arith, whole.maps_count))
+newest_store : (s : ℕ) (first : PageMap) (world : World) → IsWorld s first world → IsStore s (newest_map world)
+newest_store s first world whole = whole.stores (length world.history) [] (omega (arith, whole.maps_count))
 
 -- WRITE
-write_keeps : (s : ℕ) (world : World) (session page byte : ℕ) (state : SessionState) → 2 ≤ page → page ≤ 16
-    → IsHeld s world.maps state → IsWorld s world → IsWorld s (write_step world session page byte state).world
-write_keeps s world session page byte Out low high held whole = whole
-write_keeps s world session page byte (Open transaction) low high held whole = record {
+write_keeps : (s : ℕ) (first : PageMap) (world : World) (session page byte : ℕ) (state : SessionState) → 2 ≤ page → page ≤ 16
+    → IsHeld s world.maps state → IsWorld s first world → IsWorld s first (write_step world session page byte state).world
+write_keeps s first world session page byte Out low high held whole = whole
+write_keeps s first world session page byte (Open transaction) low high held whole = record {
+  begins = whole.begins;
   maps_count = whole.maps_count;
   answers_count = whole.answers_count;
   stores = whole.stores;
   follows = whole.follows;
   held = held_changed s world.maps world.sessions session _
       (held.0, tied_write s (page_size_of (newest_map world)) (map_number world transaction.snap) transaction page byte low high
-      (newest_store s world whole).size held.1) whole.held;
+      (newest_store s first world whole).size held.1) whole.held;
 }
-write_keeps s world session page byte (Refused transaction) low high held whole = whole
+write_keeps s first world session page byte (Refused transaction) low high held whole = whole
 
 -- COMMIT that nothing bars
-committed_keeps : (s : ℕ) (world : World) (session : ℕ) (transaction : Transaction) → IsHeld s world.maps (Open transaction)
-    → NoConflict Concurrent transaction.reads transaction.snap world.history → IsWorld s world
-    → IsWorld s (committed world session transaction).world
-committed_keeps s world session transaction held free whole =
+committed_keeps : (s : ℕ) (first : PageMap) (world : World) (session : ℕ) (transaction : Transaction) → IsHeld s world.maps (Open transaction)
+    → NoConflict Concurrent transaction.reads transaction.snap world.history → IsWorld s first world
+    → IsWorld s first (committed world session transaction).world
+committed_keeps s first world session transaction held free whole =
     let within : transaction.snap ≤ length world.history = omega (arith, held.0, whole.maps_count) in
     let newest = newest_map world in
     let next = laid newest (change_of world transaction) in
     let one = commit_of (submitted world session transaction) in
-    let sound = newest_store s world whole in
-    let agree = agree_since s world whole transaction.snap within transaction.reads free in
+    let sound = newest_store s first world whole in
+    let agree = agree_since s first world whole transaction.snap within transaction.reads free in
     record {
+      begins = first_stays world.maps next first whole.begins;
       maps_count = omega (arith, length-append world.maps (next ∷ []), length-append world.history (one ∷ []), whole.maps_count);
       answers_count = omega (arith, length-append world.answers (transaction.answers ∷ []), length-append world.history (one ∷ []),
           whole.answers_count);
@@ -298,13 +311,14 @@ committed_keeps s world session transaction held free whole =
     }
 
 -- COMMIT of a transaction that wrote
-decided_keeps : (s : ℕ) (world : World) (session : ℕ) (transaction : Transaction) (found : Option (ℕ × ℕ))
+decided_keeps : (s : ℕ) (first : PageMap) (world : World) (session : ℕ) (transaction : Transaction) (found : Option (ℕ × ℕ))
     → conflict Concurrent transaction.reads transaction.snap world.history ≡ found → IsHeld s world.maps (Open transaction)
-    → IsWorld s world → IsWorld s (decided world session transaction found).world
-decided_keeps s world session transaction None is held whole =
-    committed_keeps s world session transaction held
+    → IsWorld s first world → IsWorld s first (decided world session transaction found).world
+decided_keeps s first world session transaction None is held whole =
+    committed_keeps s first world session transaction held
     (no_conflict Concurrent transaction.reads transaction.snap world.history is) whole
-decided_keeps s world session transaction (Some found) is held whole = record {
+decided_keeps s first world session transaction (Some found) is held whole = record {
+  begins = whole.begins;
   maps_count = whole.maps_count;
   answers_count = whole.answers_count;
   stores = whole.stores;
@@ -313,46 +327,46 @@ decided_keeps s world session transaction (Some found) is held whole = record {
 }
 
 -- COMMIT
-commit_keeps : (s : ℕ) (world : World) (session : ℕ) (state : SessionState) → IsHeld s world.maps state → IsWorld s world
-    → IsWorld s (commit_step world session state).world
-commit_keeps s world session Out held whole = whole
-commit_keeps s world session (Open transaction) held whole = by_wrote transaction.wrote
+commit_keeps : (s : ℕ) (first : PageMap) (world : World) (session : ℕ) (state : SessionState) → IsHeld s world.maps state → IsWorld s first world
+    → IsWorld s first (commit_step world session state).world
+commit_keeps s first world session Out held whole = whole
+commit_keeps s first world session (Open transaction) held whole = by_wrote transaction.wrote
   where
-    by_wrote : (wrote : Bool) → IsWorld s (cond wrote
+    by_wrote : (wrote : Bool) → IsWorld s first (cond wrote
         (decided world session transaction (conflict Concurrent transaction.reads transaction.snap world.history))
         (moved world session Out (told.Done (ReadOnly transaction.snap)))).world
     by_wrote true =
-        decided_keeps s world session transaction (conflict Concurrent transaction.reads transaction.snap world.history) refl held whole
-    by_wrote false = moved_keeps s world session Out (told.Done (ReadOnly transaction.snap)) tt whole
-commit_keeps s world session (Refused transaction) held whole = whole
+        decided_keeps s first world session transaction (conflict Concurrent transaction.reads transaction.snap world.history) refl held whole
+    by_wrote false = moved_keeps s first world session Out (told.Done (ReadOnly transaction.snap)) tt whole
+commit_keeps s first world session (Refused transaction) held whole = whole
 
 -- ROLLBACK
-rollback_keeps : (s : ℕ) (world : World) (session : ℕ) (state : SessionState) → IsWorld s world
-    → IsWorld s (rollback_step world session state).world
-rollback_keeps s world session Out whole = whole
-rollback_keeps s world session (Open transaction) whole = moved_keeps s world session Out told.Ok tt whole
-rollback_keeps s world session (Refused transaction) whole = moved_keeps s world session Out told.Ok tt whole
+rollback_keeps : (s : ℕ) (first : PageMap) (world : World) (session : ℕ) (state : SessionState) → IsWorld s first world
+    → IsWorld s first (rollback_step world session state).world
+rollback_keeps s first world session Out whole = whole
+rollback_keeps s first world session (Open transaction) whole = moved_keeps s first world session Out told.Ok tt whole
+rollback_keeps s first world session (Refused transaction) whole = moved_keeps s first world session Out told.Ok tt whole
 
 -- each act
-pub step_keeps : (s : ℕ) (world : World) (one : Act) → IsInRange one → IsWorld s world → IsWorld s (step world one).world
-step_keeps s world (act.Begin session) range whole = begin_keeps s world session (world.sessions session) whole
-step_keeps s world (act.Read session page) range whole =
-    read_keeps s world session page (world.sessions session) range.0 range.1 (whole.held session) whole
-step_keeps s world (act.Write session page byte) range whole =
-    write_keeps s world session page byte (world.sessions session) range.0 range.1 (whole.held session) whole
-step_keeps s world (act.Commit session) range whole =
-    commit_keeps s world session (world.sessions session) (whole.held session) whole
-step_keeps s world (act.Rollback session) range whole = rollback_keeps s world session (world.sessions session) whole
-step_keeps s world act.Copy range whole = whole
-step_keeps s world act.Step range whole = whole
-step_keeps s world act.Logs range whole = whole
+pub step_keeps : (s : ℕ) (first : PageMap) (world : World) (one : Act) → IsInRange one → IsWorld s first world → IsWorld s first (step world one).world
+step_keeps s first world (act.Begin session) range whole = begin_keeps s first world session (world.sessions session) whole
+step_keeps s first world (act.Read session page) range whole =
+    read_keeps s first world session page (world.sessions session) range.0 range.1 (whole.held session) whole
+step_keeps s first world (act.Write session page byte) range whole =
+    write_keeps s first world session page byte (world.sessions session) range.0 range.1 (whole.held session) whole
+step_keeps s first world (act.Commit session) range whole =
+    commit_keeps s first world session (world.sessions session) (whole.held session) whole
+step_keeps s first world (act.Rollback session) range whole = rollback_keeps s first world session (world.sessions session) whole
+step_keeps s first world act.Copy range whole = whole
+step_keeps s first world act.Step range whole = whole
+step_keeps s first world act.Logs range whole = whole
 
 -- any acts
-pub after_keeps : (s : ℕ) (world : World) (acts : List Act) → AreInRange acts → IsWorld s world → IsWorld s (after world acts)
-after_keeps s world [] range whole = whole
-after_keeps s world (one ∷ acts) range whole =
-    after_keeps s (step world one).world acts (All-tail IsInRange one acts range)
-    (step_keeps s world one (All-head IsInRange one acts range) whole)
+pub after_keeps : (s : ℕ) (first : PageMap) (world : World) (acts : List Act) → AreInRange acts → IsWorld s first world → IsWorld s first (after world acts)
+after_keeps s first world [] range whole = whole
+after_keeps s first world (one ∷ acts) range whole =
+    after_keeps s first (step world one).world acts (All-tail IsInRange one acts range)
+    (step_keeps s first world one (All-head IsInRange one acts range) whole)
 
 -- a session that is held was told what its statements are told alone on its snapshot
 sees_snapshot : (s : ℕ) (world : World) (state : SessionState) → All (IsStore s) world.maps → IsHeld s world.maps state
@@ -374,8 +388,8 @@ sees_snapshot s world (Refused transaction) stores held =
     }
 
 -- such a world is serial
-pub world_is_serial : (s : ℕ) (world : World) → IsWorld s world → IsSerial world
-world_is_serial s world whole = record {
+pub world_is_serial : (s : ℕ) (first : PageMap) (world : World) → IsWorld s first world → IsSerial world
+world_is_serial s first world whole = record {
   commits = λ number before after commit answers old one said new.
       (whole.follows number before after commit answers old one said new).serial;
   counts = (whole.maps_count, whole.answers_count);
@@ -404,17 +418,27 @@ zeros_are_store =
     alike_are_store row 4096 (length-replicate 4096 none) (3, omega arith, refl) refl
 
 -- a world in which nothing has happened yet
-pub world_over-is : (s : ℕ) (pages : PageMap) → IsStore s pages → IsWorld s (world_over pages)
-world_over-is s pages sound = record {
+pub world_over-is : (s : ℕ) (first : PageMap) → IsStore s first → IsWorld s first (world_over first)
+world_over-is s first sound = record {
+  begins = refl;
   maps_count = refl;
   answers_count = refl;
-  stores = All-cons (IsStore s) pages [] sound (All-nil (IsStore s));
+  stores = All-cons (IsStore s) first [] sound (All-nil (IsStore s));
   follows = λ k old new commit answers is_old is_commit is_answers is_new.
       absurd (let bound = inside [] k commit is_commit in omega arith);
   held = λ session. tt;
 }
 
--- whatever page lines are run from the start, the world after them is serial
+-- whatever page lines are run over a page store, the world after them is serial from there
+pub serial_over : (s : ℕ) (first : PageMap) → IsStore s first → (acts : List Act) → AreInRange acts
+    → IsSerialFrom first (after (world_over first) acts)
+serial_over s first sound acts range =
+    let whole = after_keeps s first (world_over first) acts range (world_over-is s first sound) in
+    record { begins = whole.begins; serial = world_is_serial s first (after (world_over first) acts) whole }
+
+-- and over the map of a page store in memory
+pub serial_from_start : (acts : List Act) → AreInRange acts → IsSerialFrom zeros (after start acts)
+serial_from_start acts range = serial_over 4096 zeros zeros_are_store acts range
+
 pub serial_start : (acts : List Act) → AreInRange acts → IsSerial (after start acts)
-serial_start acts range =
-    world_is_serial 4096 (after start acts) (after_keeps 4096 start acts range (world_over-is 4096 zeros zeros_are_store))
+serial_start acts range = (serial_from_start acts range).serial

@@ -46,6 +46,11 @@ pub record IsSerial (world : World) : Type 0 where
   pub counts : (length world.maps ≡ length world.history + 1) × (length world.answers ≡ length world.history)
   pub others : (session : ℕ) → SeesSnapshot world (world.sessions session)
 
+-- Serial order from a first map: the commits ran one after another from there.
+pub record IsSerialFrom (first : PageMap) (world : World) : Type 0 where
+  pub begins : slice_get world.maps 0 ≡ Some first
+  pub serial : IsSerial world
+
 -- an act names a page from 2 to 16, and a byte below 256, where it names one
 abbrev pub IsInRange : Act → Type 0
 IsInRange (act.Begin session) = Unit {0}
