@@ -5,12 +5,11 @@ use Rattle.std.specs.Prelude.{slice_index, unwrap_or, true, false}
 use Rattle.std.proofs.lemmas.List.{append-nil, append_assoc, length-replicate}
 use Rattle.std.proofs.lemmas.Bool.{ne_eqb}
 use Rattle.page_spec.specs.PageMap.{PageMap, page_at, page_size_of, Agree}
-use Rattle.run_spec.specs.declared.commits.PageImage.{PageImage}
 use Rattle.run_spec.specs.declared.lines.Told.{Told}
 use Rattle.run_spec.specs.declared.lines.Told.TheVariants as told
 use Rattle.run_spec.specs.PageSet.{with_page}
 use Rattle.run_spec.specs.PageLines.{Statement, ReadPage, WritePage, statement_text, read_text, write_text, page_after, image_of, with_image, Fills, AreImages, IsPageStore}
-use Rattle.run_spec.specs.World.{World, Transaction, map_number, newest_map, shown, reads_with}
+use Rattle.run_spec.specs.World.{World, Transaction, map_number, shown, reads_with}
 use Rattle.run_spec.specs.Serial.{told_alone}
 use Rattle.run_spec.proofs.Laying.{page_at-length, agree_fewer}
 use Rattle.run_spec.proofs.PageSets.{with_has, with_keeps}
@@ -50,7 +49,7 @@ pub record IsTied (s : ℕ) (snapshot : PageMap) (transaction : Transaction) : T
   pub images : AreImages s transaction.changed
   pub fills : Fills s statements transaction.changed
   pub alone : (pages : PageMap) → IsStore s pages → Agree snapshot pages transaction.reads
-    → transaction.answers ≡ told_alone pages [] statements
+      → transaction.answers ≡ told_alone pages [] statements
 
 -- a transaction that has done nothing
 pub tied_none : (s n : ℕ) (snapshot : PageMap)
@@ -89,9 +88,10 @@ same_seen snapshot pages transaction page (Some bytes) low is agree = rw is refl
 pub tied_read : (s : ℕ) (world : World) (transaction : Transaction) (page : ℕ) → 2 ≤ page → page ≤ 16
     → IsTied s (map_number world transaction.snap) transaction
     → IsTied s (map_number world transaction.snap) (record transaction {
-        reads = reads_with transaction page;
-        said = transaction.said ++ read_text page ∷ [];
-        answers = transaction.answers ++ told.Byte (slice_index (shown world transaction page) 0) ∷ [] })
+      reads = reads_with transaction page;
+      said = transaction.said ++ read_text page ∷ [];
+      answers = transaction.answers ++ told.Byte (slice_index (shown world transaction page) 0) ∷ [];
+    })
 tied_read s world transaction page low high tied =
     let snapshot = map_number world transaction.snap in
     record {
@@ -115,10 +115,11 @@ tied_read s world transaction page low high tied =
 pub tied_write : (s size : ℕ) (snapshot : PageMap) (transaction : Transaction) (page byte : ℕ) → 2 ≤ page → page ≤ 16
     → size ≡ s → IsTied s snapshot transaction
     → IsTied s snapshot (record transaction {
-        changed = with_image transaction.changed page (replicate size byte);
-        said = transaction.said ++ write_text page byte ∷ [];
-        answers = transaction.answers ++ told.Ok ∷ [];
-        wrote = true })
+      changed = with_image transaction.changed page (replicate size byte);
+      said = transaction.said ++ write_text page byte ∷ [];
+      answers = transaction.answers ++ told.Ok ∷ [];
+      wrote = true;
+    })
 tied_write s size snapshot transaction page byte low high is tied = record {
   statements = tied.statements ++ WritePage page byte ∷ [];
   texts = ap (λ (texts : List (List ℕ)). texts ++ write_text page byte ∷ []) tied.texts

@@ -1,6 +1,6 @@
 -- Serial order: whatever page lines are run, the committed transactions were told what they would have been told one after another,
 -- and all others what they would have been told alone on their snapshot.
-use Rattle.std.proofs.Common.{◌≡◌, ℕ, ◌+◌, ◌-◌, ◌<◌, ◌≤◌, Bool, true, false, cond, eqb, List, [], ◌∷◌, ◌++◌, length, map, drop, replicate, get_or, Option, Some, None, zero, suc, refl, sym, subst, ap, ◌∙◌, inl, inr, arith, length-append, length-drop, add-zero}
+use Rattle.std.proofs.Common.{◌≡◌, ℕ, ◌+◌, ◌-◌, ◌<◌, ◌≤◌, Bool, true, false, cond, eqb, List, [], ◌∷◌, ◌++◌, length, drop, replicate, get_or, Option, Some, None, zero, suc, refl, sym, subst, ap, ◌∙◌, inl, inr, arith, length-append, length-drop, add-zero}
 use Rattle.std.specs.Prelude.{Contains, All, slice_get, slice_index}
 use Rattle.std.specs.List.{list_any, slice_index_or}
 use Rattle.std.proofs.lemmas.Bool.{or_parts, cases_lt}
@@ -11,20 +11,20 @@ use Rattle.std.proofs.Math.Seq.{get_or-append_seam}
 use Rattle.page_spec.specs.PageMap.{PageMap, page_at, page_size_of, page_sizes, Agree}
 use Rattle.run_spec.specs.declared.commits.Commit.{Commit}
 use Rattle.run_spec.specs.declared.commits.Mode.{Mode}
-use Rattle.run_spec.specs.declared.commits.Mode.TheVariants.{Plain, Concurrent}
+use Rattle.run_spec.specs.declared.commits.Mode.TheVariants.{Concurrent}
 use Rattle.run_spec.specs.declared.lines.Act.{Act}
 use Rattle.run_spec.specs.declared.lines.Act.TheVariants as act
 use Rattle.run_spec.specs.declared.lines.Told.{Told}
 use Rattle.run_spec.specs.declared.lines.Told.TheVariants as told
 use Rattle.run_spec.specs.declared.commits.Receipt.TheVariants.{ReadOnly}
-use Rattle.run_spec.specs.PageLines.{page_after, AreImages, IsPageStore}
+use Rattle.run_spec.specs.PageLines.{AreImages}
 use Rattle.run_spec.specs.Change.{laid}
 use Rattle.run_spec.specs.History.{counts, is_written, conflict, NoConflict}
 use Rattle.run_spec.specs.Seen.{commit_of}
-use Rattle.run_spec.specs.World.{World, SessionState, Out, Open, Refused, Transaction, changed_at, map_number, newest_map, change_of, submitted, moved, begin, committed, decided, commit, begin_step, read_step, write_step, commit_step, rollback_step, step, after, world_over, zeros, start}
-use Rattle.run_spec.specs.Serial.{IsSerialCommit, IsAtSnapshot, SeesSnapshot, IsSerial, IsSerialFrom, IsInRange, AreInRange}
+use Rattle.run_spec.specs.World.{World, SessionState, Out, Open, Refused, Transaction, changed_at, map_number, newest_map, change_of, submitted, moved, committed, decided, commit, begin_step, read_step, write_step, commit_step, rollback_step, step, after, world_over, zeros, start}
+use Rattle.run_spec.specs.Serial.{IsSerialCommit, SeesSnapshot, IsSerial, IsSerialFrom, IsInRange, AreInRange}
 use Rattle.run_spec.proofs.Conflicts.{no_conflict}
-use Rattle.run_spec.proofs.Laying.{IsWhole, page_at-length, laid-put, laid-page_size, put_pages-at, agree_refl, agree_trans, agree_laid}
+use Rattle.run_spec.proofs.Laying.{laid-put, laid-page_size, put_pages-at, agree_refl, agree_trans, agree_laid}
 use Rattle.run_spec.proofs.GoodLines.{legal_size, lines_whole, laid-store}
 use Rattle.run_spec.proofs.Alone.{IsStore, IsTied, page-long, tied_none, tied_read, tied_write}
 
@@ -50,8 +50,8 @@ pub record IsWorld (s : ℕ) (first : PageMap) (world : World) : Type 0 where
   pub answers_count : length world.answers ≡ length world.history
   pub stores : All (IsStore s) world.maps
   pub follows : (k : ℕ) (old new : PageMap) (commit : Commit) (answers : List Told)
-    → slice_get world.maps k ≡ Some old → slice_get world.history k ≡ Some commit → slice_get world.answers k ≡ Some answers
-    → slice_get world.maps (k + 1) ≡ Some new → Follows k old commit answers new
+      → slice_get world.maps k ≡ Some old → slice_get world.history k ≡ Some commit → slice_get world.answers k ≡ Some answers
+      → slice_get world.maps (k + 1) ≡ Some new → Follows k old commit answers new
   pub held : (session : ℕ) → IsHeld s world.maps (world.sessions session)
 
 -- what stands inside a list is found
@@ -89,7 +89,7 @@ pushed : (P : ℕ → PageMap → Commit → List Told → PageMap → Type 0) (
     (told : List (List Told)) (next : PageMap) (commit : Commit) (answers : List Told)
     → length maps ≡ length history + 1 → length told ≡ length history
     → ((k : ℕ) (old new : PageMap) (one : Commit) (said : List Told) → slice_get maps k ≡ Some old → slice_get history k ≡ Some one
-        → slice_get told k ≡ Some said → slice_get maps (k + 1) ≡ Some new → P k old one said new)
+    → slice_get told k ≡ Some said → slice_get maps (k + 1) ≡ Some new → P k old one said new)
     → P (length history) (get_or maps (length history) []) commit answers next
     → (k : ℕ) (old new : PageMap) (one : Commit) (said : List Told) → slice_get (maps ++ next ∷ []) k ≡ Some old
     → slice_get (history ++ commit ∷ []) k ≡ Some one → slice_get (told ++ answers ∷ []) k ≡ Some said
@@ -105,8 +105,13 @@ pushed P maps history told next commit answers more same all here k old new one 
           let first : old ≡ get_or maps (length history) [] =
           sym (get_or_from_slice_get maps k old [] (front_of maps next k old (omega arith) is_old))
           ∙ ap (λ (m : ℕ). get_or maps m []) last in
-          rw (last, first, last_of history commit k one last is_one, last_of told answers k said (omega arith) is_said,
-          last_of maps next (k + 1) new (omega arith) is_new) here)
+          rw (
+            last,
+            first,
+            last_of history commit k one last is_one,
+            last_of told answers k said (omega arith) is_said,
+            last_of maps next (k + 1) new (omega arith) is_new,
+          ) here)
     ]
 
 -- where none of some commits wrote a page, each of them didn't
@@ -121,7 +126,7 @@ uncounted_at mode page (commit ∷ commits) none (suc k) d within =
 -- a map agrees with one of d commits later on pages that none of these wrote
 agree_steps : (s : ℕ) (first : PageMap) (world : World) → IsWorld s first world → (numbers : List ℕ) (n d : ℕ) → n + d ≤ length world.history
     → ((q k : ℕ) (commit : Commit) → Contains numbers q → n ≤ k → k < n + d → slice_get world.history k ≡ Some commit
-        → counts Concurrent q commit ≡ false)
+    → counts Concurrent q commit ≡ false)
     → Agree (get_or world.maps n []) (get_or world.maps (n + d) []) numbers
 agree_steps s first world whole numbers n zero within left =
     subst (λ (m : ℕ). Agree (get_or world.maps n []) (get_or world.maps m []) numbers) (sym (add-zero n))
@@ -150,13 +155,13 @@ agree_since s first world whole n within numbers none =
     subst (λ (m : ℕ). Agree (get_or world.maps n []) (get_or world.maps m []) numbers) rest
     (agree_steps s first world whole numbers n (length world.history - n) (omega arith)
     (λ q k commit there low high found.
-        let apart : k ≡ n + (k - n) = omega arith in
-        let left : counts Concurrent q (get_or (drop n world.history) (k - n) commit) ≡ false =
-        uncounted_at Concurrent q (drop n world.history) (none q there) (k - n) commit (omega (arith, length-drop n world.history)) in
-        let is : get_or (drop n world.history) (k - n) commit ≡ commit =
-        get_or-drop n world.history (k - n) commit ∙ (ap (λ (m : ℕ). get_or world.history m commit) (sym apart)
-        ∙ get_or_from_slice_get world.history k commit commit found) in
-        subst (λ (one : Commit). counts Concurrent q one ≡ false) is left))
+    let apart : k ≡ n + (k - n) = omega arith in
+    let left : counts Concurrent q (get_or (drop n world.history) (k - n) commit) ≡ false =
+    uncounted_at Concurrent q (drop n world.history) (none q there) (k - n) commit (omega (arith, length-drop n world.history)) in
+    let is : get_or (drop n world.history) (k - n) commit ≡ commit =
+    get_or-drop n world.history (k - n) commit ∙ (ap (λ (m : ℕ). get_or world.history m commit) (sym apart)
+    ∙ get_or_from_slice_get world.history k commit commit found) in
+    subst (λ (one : Commit). counts Concurrent q one ≡ false) is left))
 
 -- the change of a transaction of page lines leads from a page store to a page store
 laid_is_store : (s : ℕ) (world : World) (transaction : Transaction) (pages : PageMap) → AreImages s transaction.changed
@@ -280,9 +285,11 @@ write_keeps s first world session page byte (Open transaction) low high held who
   answers_count = whole.answers_count;
   stores = whole.stores;
   follows = whole.follows;
-  held = held_changed s world.maps world.sessions session _
-      (held.0, tied_write s (page_size_of (newest_map world)) (map_number world transaction.snap) transaction page byte low high
-      (newest_store s first world whole).size held.1) whole.held;
+  held = held_changed s world.maps world.sessions session _ (
+    held.0,
+    tied_write s (page_size_of (newest_map world)) (map_number world transaction.snap) transaction page byte low high
+        (newest_store s first world whole).size held.1,
+  ) whole.held;
 }
 write_keeps s first world session page byte (Refused transaction) low high held whole = whole
 
@@ -300,8 +307,12 @@ committed_keeps s first world session transaction held free whole =
     record {
       begins = first_stays world.maps next first whole.begins;
       maps_count = omega (arith, length-append world.maps (next ∷ []), length-append world.history (one ∷ []), whole.maps_count);
-      answers_count = omega (arith, length-append world.answers (transaction.answers ∷ []), length-append world.history (one ∷ []),
-          whole.answers_count);
+      answers_count = omega (
+        arith,
+        length-append world.answers (transaction.answers ∷ []),
+        length-append world.history (one ∷ []),
+        whole.answers_count,
+      );
       stores = All-append (IsStore s) world.maps (next ∷ []) whole.stores
           (All-cons (IsStore s) next [] (laid_is_store s world transaction newest held.1.images sound) (All-nil (IsStore s)));
       follows = pushed Follows world.maps world.history world.answers next one transaction.answers whole.maps_count

@@ -1,5 +1,5 @@
 -- What a run of page lines amounts to: the committed transactions ran one after another, and all others saw their snapshot.
-use Rattle.std.specs.Prelude.{◌≡◌, ℕ, ◌+◌, ◌<◌, ◌≤◌, List, [], ◌∷◌, ◌++◌, length, map, slice_index, slice_get, All, Option, Some}
+use Rattle.std.specs.Prelude.{◌≡◌, ℕ, ◌+◌, ◌<◌, ◌≤◌, List, [], ◌∷◌, ◌++◌, length, map, slice_index, slice_get, All, Some}
 use Rattle.page_spec.specs.PageMap.{PageMap, page_at}
 use Rattle.run_spec.specs.declared.commits.Commit.{Commit}
 use Rattle.run_spec.specs.declared.lines.Act.{Act}
@@ -40,9 +40,9 @@ SeesSnapshot world (Refused transaction) = IsAtSnapshot (map_number world transa
 -- Serial order: each commit in turn, and each transaction that is open or was refused.
 pub record IsSerial (world : World) : Type 0 where
   pub commits : (number : ℕ) (before after : PageMap) (commit : Commit) (answers : List Told)
-    → slice_get world.maps number ≡ Some before → slice_get world.history number ≡ Some commit
-    → slice_get world.answers number ≡ Some answers → slice_get world.maps (number + 1) ≡ Some after
-    → IsSerialCommit number before commit answers after
+      → slice_get world.maps number ≡ Some before → slice_get world.history number ≡ Some commit
+      → slice_get world.answers number ≡ Some answers → slice_get world.maps (number + 1) ≡ Some after
+      → IsSerialCommit number before commit answers after
   pub counts : (length world.maps ≡ length world.history + 1) × (length world.answers ≡ length world.history)
   pub others : (session : ℕ) → SeesSnapshot world (world.sessions session)
 
