@@ -5,3 +5,4 @@ pub mod CommitKeeps
 pub mod SeatLaws
 pub mod Telling
 pub mod Standing
+pub mod Memory

@@ -1,6 +1,6 @@
 -- What an act over an engine does is what it does to the world.
-use Rattle.std.proofs.Common.{◌≡◌, ◌∙◌, ℕ, ◌+◌, ◌<◌, ◌≤◌, Bool, true, false, cond, List, [], ◌∷◌, ◌++◌, length, replicate, refl, sym, ap, subst, inl, inr, arith, get_or, eq-eqb}
-use Rattle.std.specs.Prelude.{Option, Some, None, Contains, slice_index, unwrap_or, IfSome, ◌⊎◌}
+use Rattle.std.proofs.Common.{◌≡◌, ◌∙◌, ℕ, ◌+◌, Bool, true, false, cond, List, [], ◌∷◌, ◌++◌, length, replicate, refl, sym, ap, subst, inl, inr, arith, get_or, eq-eqb}
+use Rattle.std.specs.Prelude.{Option, Some, None, Contains, slice_index, unwrap_or, IfSome}
 use Rattle.std.proofs.lemmas.Bool.{cases_eq, ne_eqb}
 use Rattle.page_spec.specs.PageMap.{PageMap, page_at, page_size_of}
 use Rattle.run_spec.specs.declared.pins.Pin.{Pin}
@@ -22,7 +22,7 @@ use Rattle.run_spec.specs.History.{conflict}
 use Rattle.run_spec.specs.PageSet.{with_page}
 use Rattle.run_spec.specs.PageLines.{image_of, with_image, read_text, write_text}
 use Rattle.run_spec.specs.Logs.{LogState, one_more, told_logs, with_frames}
-use Rattle.run_spec.specs.Seen.{Seen, Submitted, Found, Later, Begins, Ends, Fails, OnlyFaults, Accepts, Refuses, Checkpoints, commit_of, with_reader, without_reader, written}
+use Rattle.run_spec.specs.Seen.{Seen, Submitted, Found, Ends, Fails, OnlyFaults, Accepts, Refuses, Checkpoints, commit_of, with_reader, without_reader, written}
 use Rattle.run_spec.specs.World.{World, SessionState, Outcome, changed_at, map_number, newest_map, step, begin_step, read_step, write_step, commit_step, rollback_step, commit, committed, moved, decided, change_of, submitted}
 use Rattle.run_spec.specs.World as run
 use Rattle.run_spec.proofs.Conflicts.{conflict_none, conflict_is}
@@ -64,7 +64,7 @@ matches_keep map_before map_after maps after (seat.Refused pin) run.Out extends 
 matches_keep map_before map_after maps after (seat.Refused pin) (run.Open transaction) extends same matches = absurd matches
 
 -- where no session moves, the engine stands at the world as before
-stay : (engine : Between) (seats after : List Seat) (world : World) → Stands engine seats after world → after ≡ seats
+pub stay : (engine : Between) (seats after : List Seat) (world : World) → Stands engine seats after world → after ≡ seats
     → TellsOf engine.new world.maps world.history → StandsAt engine.new engine.map_after after world
 stay engine seats after world b same tells = record {
   tells = tells;
@@ -198,7 +198,7 @@ begin_acts engine seats after world s told (seat.Refused pin) run.Out b matches 
 begin_acts engine seats after world s told (seat.Refused pin) (run.Open transaction) b matches acts = absurd matches
 
 -- where nothing but the faults may have changed, all stays as told
-tells_quiet : (engine : Between) (seats after : List Seat) (world : World) → Stands engine seats after world
+pub tells_quiet : (engine : Between) (seats after : List Seat) (world : World) → Stands engine seats after world
     → Found engine.alone engine.free engine.old (λ mid. OnlyFaults mid engine.new) → TellsOf engine.new world.maps world.history
 tells_quiet engine seats after world b found =
     let old : found.0 ≡ engine.old = found.1.nobody b.alone in

@@ -1,8 +1,8 @@
 -- What an engine tells after its own calls, where it is alone and keeps no logs.
-use Rattle.std.proofs.Common.{◌≡◌, ◌∙◌, ℕ, ◌+◌, ◌*◌, ◌^◌, ◌<◌, ◌≤◌, List, [], ◌∷◌, ◌++◌, length, map, refl, sym, ap, subst, inl, inr, arith, rules, get_or, length-append, eqb, eqb-true, true, false}
-use Rattle.std.specs.Prelude.{Option, Some, None, Contains, All, ◌⊎◌}
+use Rattle.std.proofs.Common.{◌≡◌, ◌∙◌, ℕ, ◌+◌, ◌*◌, ◌^◌, ◌<◌, ◌≤◌, List, [], ◌∷◌, ◌++◌, length, map, refl, sym, ap, subst, inl, inr, arith, rules, get_or, length-append, eqb, eqb-true, true}
+use Rattle.std.specs.Prelude.{Option, Some, None, Contains, All}
 use Rattle.std.specs.Option.{option_map}
-use Rattle.std.specs.List.{IsDistinct}
+use Rattle.std.specs.List.{IsDistinct, list_any}
 use Rattle.std.proofs.lemmas.Bool.{ne_eqb}
 use Rattle.std.proofs.lemmas.Grind.{get_or_default_zero}
 use Rattle.std.proofs.lemmas.Map.Keys.{IsDistinct-from_apart}
@@ -19,7 +19,6 @@ use Rattle.run_spec.specs.Change.{Change, laid}
 use Rattle.run_spec.specs.declared.commits.Commit.{Commit}
 use Rattle.run_spec.specs.Logs.{LogState}
 use Rattle.run_spec.specs.PageLines.{AreImages, IsPageStore}
-use Rattle.run_spec.specs.PageSet.{AreDifferent}
 use Rattle.run_spec.specs.Seen.{Seen, IsOver, pages_after, frames_after}
 use Rattle.run_spec.proofs.Laying.{IsWhole, laid-page_size}
 use Rattle.run_spec.proofs.GoodLines.{legal_size, laid-store}
@@ -132,7 +131,7 @@ few_images s images are =
             let one : get_or pages i d ≡ get_or pages i 0 = get_or_default_zero pages i d (omega arith) in
             let other : get_or pages j d ≡ get_or pages j 0 = get_or_default_zero pages j d within in
             ne_eqb (get_or pages i d) (get_or pages j d) (λ e. are.different i j below within (sym one ∙ e ∙ other))) in
-    let low : (q : ℕ) → Rattle.std.specs.List.list_any (eqb q) pages ≡ true → q < 17 = λ q found.
+    let low : (q : ℕ) → list_any (eqb q) pages ≡ true → q < 17 = λ q found.
         below_all images are.in_range q (Contains-from_any (λ x y e. eqb-true x y e) q pages found) in
     omega (arith, count, length-le_from_distinct_below pages 17 distinct low)
   where

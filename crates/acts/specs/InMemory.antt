@@ -1,5 +1,5 @@
 -- An engine under page lines, and the sessions over it, stand at a world: what they hold is what a run over whole page maps holds.
-use Rattle.std.specs.Prelude.{◌≡◌, ℕ, ◌+◌, ◌<◌, List, [], length, Option, Some, None}
+use Rattle.std.specs.Prelude.{◌≡◌, ℕ, ◌+◌, ◌<◌, List, [], length, slice_get, Option, Some, None}
 use Rattle.std.specs.List.{slice_index_or}
 use Rattle.page_spec.specs.PageMap.{PageMap, page_size_of}
 use Rattle.run_spec.specs.declared.pins.Pin.{Pin}
@@ -12,7 +12,8 @@ use Rattle.acts.specs.declared.seats.Seat.{Seat}
 use Rattle.acts.specs.declared.seats.State.{State}
 use Rattle.acts.specs.declared.seats.State.TheVariants as seat
 use Rattle.acts.specs.declared.seats.Transaction.{Transaction}
-use Rattle.acts.specs.Pagers.{state_of, begun_of}
+use Rattle.acts.specs.Pagers.{state_of, begun_of, pins_of, AreSound}
+use Rattle.acts.specs.Plain.{PlainState, PlainLive, plain_seen}
 
 -- The engine tells of the last of these maps, which is a page store, and of these commits. No disk failed, and it keeps no logs.
 pub record TellsOf (seen : Seen) (maps : List PageMap) (history : List Commit) : Type 0 where
@@ -57,3 +58,14 @@ pub record StandsAt (seen : Seen) (map_at : Pin → Option PageMap) (seats : Lis
   pub tells : TellsOf seen world.maps world.history
   pub sessions : (session : ℕ) → Matches map_at world.maps (state_of seats session) (world.sessions session)
   pub begun : (session : ℕ) → world.begun session ≡ begun_of seats session
+
+-- what a store in memory holds: its engine, and the seats of its sessions
+pub record Memory : Type 0 where
+  pub plain : PlainState
+  pub seats : List Seat
+
+-- The store in memory stands at the world, its sessions' transactions are sound, and their pins hold.
+pub record IsAt (memory : Memory) (world : World) : Type 0 where
+  pub stands : StandsAt (plain_seen memory.plain) (λ pin. slice_get memory.plain.maps pin.n) memory.seats world
+  pub sound : AreSound memory.plain.page_size memory.seats
+  pub live : PlainLive memory.plain (pins_of memory.seats)

@@ -421,7 +421,7 @@ alike_are_store row s is legal none = record {
 }
 
 -- the map of a page store in memory is a page store
-zeros_are_store : IsStore 4096 zeros
+pub zeros_are_store : IsStore 4096 zeros
 unfolding zeros
 zeros_are_store =
     let row : List ℕ = replicate 4096 0 in
