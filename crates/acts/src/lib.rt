@@ -8,6 +8,7 @@ mod plain;
 mod raw;
 mod seats;
 mod shared_page;
+mod transaction;
 
 pub use plain::Plain;
 pub use raw::Raw;
