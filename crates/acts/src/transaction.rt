@@ -1,5 +1,5 @@
 // What a transaction of page lines keeps of its reads and writes.
-ghost use Rattle.std.specs.Prelude.{◌≡◌, ◌<◌, ◌≤◌, ◌++◌, ◌∷◌, [], length, replicate, slice_index, IfOk, OnOk, OnErr, MatchOption, All, Option};
+ghost use Rattle.std.specs.Prelude.{◌≡◌, ◌<◌, ◌≤◌, ◌==◌, position, ◌++◌, ◌∷◌, [], length, replicate, slice_index, IfOk, OnOk, OnErr, MatchOption, All, Option};
 ghost use Rattle.run_spec.specs.PageLines.{read_text, write_text, image_of, with_image};
 ghost use Rattle.acts.specs.Pagers.{after_fetch, after_own, after_write};
 
@@ -40,12 +40,19 @@ pub fn own_byte(changed: &[PageImage], page: u32, page_size: usize) -> Option<u8
     None
 }
 
+// The index of the image of this page.
+fn place_of(images: &[PageImage], page: u32) -> Option<usize>
+    ensures { result ≡ position (λ image. image.page == page) images.now }
+{
+    images.iter().position(|image| image.page == page)
+}
+
 // Puts an image in the place of that of its page, else at the end. The error is want of memory, and leaves the images as they were.
 fn put_image(changed: &mut Items<PageImage>, page: u32, bytes: Bytes) -> Result<(), AllocError>
     ensures ok { OnOk result (changed.new ≡ with_image changed.old page bytes) }
     ensures err { OnErr result (changed.new ≡ changed.old) }
 {
-    match changed.as_slice().iter().position(|image| image.page == page) {
+    match place_of(changed.as_slice(), page) {
         Some(at) => {
             changed.set(at, PageImage { page, bytes });
             Ok(())
