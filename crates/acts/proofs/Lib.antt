@@ -6,3 +6,7 @@ pub mod SeatLaws
 pub mod Telling
 pub mod Standing
 pub mod Memory
+pub mod Places
+pub mod Outcomes
+pub mod Seatings
+pub mod Copying

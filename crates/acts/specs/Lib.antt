@@ -2,3 +2,4 @@ pub mod Plain
 pub mod PlainLaws
 pub mod Pagers
 pub mod InMemory
+pub mod Turns
