@@ -34,6 +34,10 @@ act_in line.Copy = Some act.Copy
 act_in line.Step = Some act.Step
 act_in line.Logs = Some act.Logs
 
+-- the acts that a line asks for, none or one
+abbrev pub acts_in : Line → List Act
+acts_in line = filter_map act_in (line ∷ [])
+
 -- the replies to these acts, one after another, from this world on
 abbrev pub replies : World → List Act → List ℕ
 replies world [] = []

@@ -2,7 +2,9 @@
 #![tactic(auto)]
 
 mod lines;
+mod memory;
 mod output;
+mod pages;
 mod reply;
 mod top;
 

@@ -1,6 +1,7 @@
 // The text of a reply.
 ghost use Rattle.std.specs.Prelude.{◌≡◌, ◌++◌, take, codes, if◌then◌else◌, decimal, vec_len, OnOk, OnErr};
 ghost use Rattle.run_spec.specs.Reply.{receipt_text, checkpoint_text, logs_text, answer_text, reply_text};
+ghost use Rattle.concsh.specs.Outcome.{refused_text};
 
 use run_spec::{Ckpt, Logs, Receipt, Told};
 use std::alloc::AllocError;
@@ -17,6 +18,16 @@ pub fn told_text(session: u32, told: &Told, to: &mut Vec<u8>) -> Result<(), Allo
         to.truncate(before);
     }
     appended
+}
+
+/// Appends the last line of a run that refused its line of this number, its LF included.
+/// The error is want of memory, and leaves a front of the line behind what was there.
+pub fn refused_line(number: u64, to: &mut Vec<u8>) -> Result<(), AllocError>
+    ensures ok { OnOk result (to.new.items ≡ to.old.items ++ refused_text number) }
+    ensures err { OnErr result (take (vec_len to.old) to.new.items ≡ to.old.items) }
+{
+    append_counted(b"script refused at line ", number, to)?;
+    to.extend_from_slice(b"\n")
 }
 
 // Each of the functions below may leave a part of its text behind after an error, and nothing else changed.

@@ -5,6 +5,7 @@ ghost use Rattle.disk_face.specs.Sink.{Puts};
 ghost use Rattle.concsh.specs.Outcome.{IsPages, status_of, words_refused, PutsFront, Ran};
 
 use crate::output::write_all;
+use crate::pages::run_pages;
 use disk_face::{Disk, Failed, Salts, Sink, Source, Word};
 use std::alloc::Global;
 
@@ -82,19 +83,4 @@ fn refuse_words<K: Sink>(out: &mut K) -> u8
         Ok(()) => 2,
         Err(Failed) => 4,
     }
-}
-
-/// Runs page lines in memory. The statuses are those of [`top`]. Until the engine in memory is there it finds no memory.
-fn run_pages<S: Source, K: Sink>(alloc: Global, src: &mut S, out: &mut K) -> u8
-    ensures statuses { Contains (0 ∷ 1 ∷ 3 ∷ 4 ∷ 7 ∷ []) result }
-    ensures source { result ≡ 3 → Rose (S.faults src.old) (S.faults src.new) }
-    ensures sink { result ≡ 4 → Rose (K.faults out.old) (K.faults out.new) }
-    ensures script { IfSome (S.left src.old) (λ script. Ran script result (S.left src.new) (K.written out.old) (K.written out.new)) }
-    ensures faults { (S.faults src.old ≤ S.faults src.new) × (K.faults out.old ≤ K.faults out.new) }
-    ensures loans { (S.loans src.new ≡ S.loans src.old) × (K.loans out.new ≡ K.loans out.old) }
-{
-    let _ = alloc;
-    let _ = src;
-    let _ = out;
-    7
 }
