@@ -132,16 +132,20 @@ BeginActs engine session before after told Out = (told ≡ reply.Ok) × ((pin : 
 BeginActs engine session before after told (Open transaction) = Same engine before after reply.InTransaction told
 BeginActs engine session before after told (Refused pin) = Same engine before after reply.MustRollBack told
 
--- READ of a page that the transaction wrote itself, or of its snapshot
-abbrev pub ReadOpen : Between → ℕ → ℕ → List Seat → List Seat → Told → Transaction → Option (List ℕ) → Type 0
-ReadOpen engine session page before after told transaction (Some bytes) = (told ≡ reply.Byte (slice_index bytes 0))
-    × (after ≡ with_state before session (Open (after_own transaction page))) × (engine.new ≡ engine.old)
-ReadOpen engine session page before after told transaction None =
+-- READ of a page of the transaction's snapshot, which may fail where the disk does
+abbrev pub FetchOpen : Between → ℕ → ℕ → List Seat → List Seat → Told → Transaction → Type 0
+FetchOpen engine session page before after told transaction =
     ((told ≡ reply.Disk) × (after ≡ before) × Found engine.alone engine.free engine.old (λ mid. Fails mid engine.new))
     ⊎ ((byte : ℕ) × (told ≡ reply.Byte byte)
         × IfSome (engine.map_before transaction.pin) (λ pages. byte ≡ slice_index (page_at pages page) 0)
         × (after ≡ with_state before session (Open (after_fetch transaction page)))
         × Found engine.alone engine.free engine.old (λ mid. OnlyFaults mid engine.new))
+
+-- READ of a page that the transaction wrote itself, or of its snapshot
+abbrev pub ReadOpen : Between → ℕ → ℕ → List Seat → List Seat → Told → Transaction → Option (List ℕ) → Type 0
+ReadOpen engine session page before after told transaction (Some bytes) = (told ≡ reply.Byte (slice_index bytes 0))
+    × (after ≡ with_state before session (Open (after_own transaction page))) × (engine.new ≡ engine.old)
+ReadOpen engine session page before after told transaction None = FetchOpen engine session page before after told transaction
 
 abbrev pub ReadActs : Between → ℕ → ℕ → List Seat → List Seat → Told → State → Type 0
 ReadActs engine session page before after told Out = Same engine before after reply.NoTransaction told

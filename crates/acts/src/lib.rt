@@ -4,11 +4,15 @@
 mod conflict;
 
 mod lay;
+mod pagers;
 mod plain;
 mod raw;
 mod seats;
 mod shared_page;
+mod transaction;
+mod turns;
 
+pub use pagers::Pagers;
 pub use plain::Plain;
 pub use raw::Raw;
 pub use run_spec::{Act, Told};

@@ -41,8 +41,8 @@ impl<M> Model for Plain<M> {
     ghost invariant = { λ plain. IsPlain (record { page_size = plain.page_size; usable = plain.usable; maps = plain.maps.items; history = plain.history.items }) };
 }
 
-impl<M> Plain<M> {
-    ghost use Rattle.acts.specs.Plain.{PlainRuns};
+impl<M: Means> Plain<M> {
+    ghost use Rattle.acts.specs.Plain.{IsPlain, PlainLive, PlainRuns};
 
     /// An engine whose first map has these pages. The error is want of memory.
     pub fn new(alloc: Global, pages: Vec<Bytes>) -> Result<Plain<M>, AllocError>
@@ -53,6 +53,9 @@ impl<M> Plain<M> {
         ensures maps { IfOk result (λ plain. plain.maps ≡ pages.items ∷ []) }
         ensures history { IfOk result (λ plain. plain.history ≡ []) }
         ensures page_size { IfOk result (λ plain. plain.page_size ≡ page_size_of pages.items) }
+        ensures live { IfOk result (λ plain. PlainLive plain []) }
+        ensures runs { IfOk result (λ plain. M.sound pages.items pages.items
+            → PlainRuns (M.sound pages.items) (M.leads pages.items) pages.items plain) }
     {
         let page_size = first_page(&pages).len();
         let usable = usable_of(first_page(&pages));

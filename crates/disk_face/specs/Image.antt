@@ -61,3 +61,7 @@ back ago told = record { first = told.first; steps = drop ago told.steps }
 -- What a crash might have left at this moment or an earlier one, from the moment when the disk had made `since` steps.
 abbrev pub MightHaveLeft : List Range → History → ℕ → Files → Type 0
 MightHaveLeft before told since image = (ago : ℕ) × (ago + since ≤ length told.steps) × MayLeave before (back ago told) image
+
+-- Whatever a crash might have left since then has P.
+abbrev pub AllLeft : List Range → History → ℕ → (Files → Type 0) → Type 0
+AllLeft before told since P = (image : Files) → MightHaveLeft before told since image → P image

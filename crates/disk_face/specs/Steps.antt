@@ -21,10 +21,14 @@ now first (Synced file ∷ steps) = now first steps
 abbrev pub reads : History → Files
 reads told = now told.first told.steps
 
+-- one step more
+abbrev pub further : Step → History → History
+further step told = record { first = told.first; steps = step ∷ told.steps }
+
 -- one step more, for a disk that tells
 abbrev pub after : Step → Option History → Option History
 after step None = None
-after step (Some told) = Some (record { first = told.first; steps = step ∷ told.steps })
+after step (Some told) = Some (further step told)
 
 -- the pieces that were handed to writes, whether or not they were refused
 abbrev pub pieces : List Step → List Piece

@@ -1,5 +1,5 @@
 -- Three files in memory, and their steps.
-use Rattle.std.specs.Prelude.{◌≡◌, ℕ, List, [], ◌∷◌, reverse}
+use Rattle.std.specs.Prelude.{◌≡◌, ℕ, List, [], reverse}
 use Rattle.disk_face.specs.declared.step.Step.{Step}
 use Rattle.disk_face.specs.Files.{Files}
 use Rattle.disk_face.specs.Steps.{History, reads}
@@ -20,7 +20,3 @@ IsKept main log1 log2 steps = held_by main log1 log2 ≡ reads (history main log
 -- these bytes in all three files
 abbrev pub fresh : List ℕ → List ℕ → List ℕ → History
 fresh main log1 log2 = record { first = record { main = main; log1 = log1; log2 = log2 }; steps = [] }
-
--- one step more
-abbrev pub further : Step → History → History
-further step told = record { first = told.first; steps = step ∷ told.steps }

@@ -1,9 +1,11 @@
 // A disk in memory.
-ghost use Rattle.std.specs.Prelude.{◌≡◌, ℕ, List, [], Some, None, false, IsErr, IsTrue, ◌↔◌, IfOk, OnOk, OnErr};
+ghost use Rattle.std.specs.Prelude.{◌≡◌, ℕ, ◌+◌, ◌≤◌, List, [], Some, None, false, length, take, drop, is_ok, IsErr, IsTrue, ◌↔◌, IfOk, OnOk, OnErr};
 ghost use Rattle.disk_face.specs.Faults.{Rose};
 ghost use Rattle.disk_face.specs.Files.{content};
-ghost use Rattle.disk_face.specs.Steps.{reads};
-ghost use Rattle.disk_mem.specs.Plan.{fails};
+ghost use Rattle.disk_face.specs.Steps.{reads, after};
+ghost use Rattle.disk_face.specs.Told.{IsInside, Refuses};
+ghost use Rattle.disk_face.specs.declared.step.Step.TheVariants.{Wrote, Synced};
+ghost use Rattle.disk_mem.specs.Plan.{fails, called};
 ghost use Rattle.disk_mem.specs.Disk.{begun, failed};
 ghost use Rattle.disk_mem.specs.Store.{fresh};
 ghost use Rattle.disk_mem.specs.Crash.{crashed};
@@ -149,30 +151,78 @@ impl Disk for MemDisk {
 
     ghost loans = { λ disk. [] };
 
-    fn attach(&mut self, _path: &[u8]) -> Result<(), Failed> {
+    fn attach(&mut self, _path: &[u8]) -> Result<(), Failed>
+        requires { self.old.attached ≡ false }
+        ensures planned { IsErr result ↔ IsTrue (fails File.Main Call.Attach self.old.plan) }
+        ensures plan { self.new.plan ≡ called File.Main Call.Attach self.old.plan }
+        ensures told { self.new.told ≡ self.old.told }
+        ensures attached { self.new.attached ≡ is_ok result }
+        ensures hot { self.new.hot ≡ self.old.hot }
+        ensures cause { OnErr result (Rose self.old.faults self.new.faults) }
+        ensures faults { self.old.faults ≤ self.new.faults }
+    {
         self.begin(File::Main, Call::Attach)?;
         self.attached = true;
         Ok(())
     }
 
-    fn journal(&mut self) -> Result<bool, Failed> {
+    fn journal(&mut self) -> Result<bool, Failed>
+        ensures planned { IsErr result ↔ IsTrue (fails File.Main Call.Journal self.old.plan) }
+        ensures answer { IfOk result (λ hot. hot ≡ self.old.hot) }
+        ensures plan { self.new.plan ≡ called File.Main Call.Journal self.old.plan }
+        ensures told { self.new.told ≡ self.old.told }
+        ensures attached { self.new.attached ≡ self.old.attached }
+        ensures hot { self.new.hot ≡ self.old.hot }
+        ensures cause { OnErr result (Rose self.old.faults self.new.faults) }
+        ensures faults { self.old.faults ≤ self.new.faults }
+    {
         self.begin(File::Main, Call::Journal)?;
         Ok(self.hot)
     }
 
-    fn size(&mut self, file: File) -> Result<u64, Failed> {
+    fn size(&mut self, file: File) -> Result<u64, Failed>
+        ensures planned { IsErr result ↔ IsTrue (fails file Call.Size self.old.plan) }
+        ensures size { IfOk result (λ size. size ≡ length (content (reads self.old.told) file)) }
+        ensures plan { self.new.plan ≡ called file Call.Size self.old.plan }
+        ensures told { self.new.told ≡ self.old.told }
+        ensures attached { self.new.attached ≡ self.old.attached }
+        ensures hot { self.new.hot ≡ self.old.hot }
+        ensures cause { OnErr result (Rose self.old.faults self.new.faults) }
+        ensures faults { self.old.faults ≤ self.new.faults }
+    {
         self.begin(file, Call::Size)?;
         Ok(self.store.bytes(file).len() as u64)
     }
 
-    fn read_at(&mut self, file: File, at: u64, buf: &mut [u8]) -> Result<(), Failed> {
+    fn read_at(&mut self, file: File, at: u64, buf: &mut [u8]) -> Result<(), Failed>
+        requires { at + length buf.old ≤ length (content (reads self.old.told) file) }
+        ensures planned { IsErr result ↔ IsTrue (fails file Call.Read self.old.plan) }
+        ensures bytes { OnOk result (buf.new ≡ take (length buf.new) (drop at (content (reads self.old.told) file))) }
+        ensures plan { self.new.plan ≡ called file Call.Read self.old.plan }
+        ensures told { self.new.told ≡ self.old.told }
+        ensures attached { self.new.attached ≡ self.old.attached }
+        ensures hot { self.new.hot ≡ self.old.hot }
+        ensures cause { OnErr result (Rose self.old.faults self.new.faults) }
+        ensures faults { self.old.faults ≤ self.new.faults }
+    {
         self.begin(file, Call::Read)?;
         let at = at as usize;
         buf.copy_from_slice(&self.store.bytes(file)[at..at + buf.len()]);
         Ok(())
     }
 
-    fn write_at(&mut self, file: File, at: u64, piece: &[u8]) -> Result<(), Failed> {
+    fn write_at(&mut self, file: File, at: u64, piece: &[u8]) -> Result<(), Failed>
+        requires { IsInside (Some self.old.told) file at 0 }
+        ensures planned { IsTrue (fails file Call.Write self.old.plan) → IsErr result }
+        ensures written { OnOk result (Some self.new.told ≡ after (Wrote (record { file = file; at = at; bytes = piece.now })) (Some self.old.told)) }
+        ensures refused { OnErr result (Refuses (record { file = file; at = at; bytes = piece.now }) (Some self.old.told) (Some self.new.told)) }
+        ensures reads { OnErr result (reads self.new.told ≡ reads self.old.told) }
+        ensures plan { self.new.plan ≡ called file Call.Write self.old.plan }
+        ensures attached { self.new.attached ≡ self.old.attached }
+        ensures hot { self.new.hot ≡ self.old.hot }
+        ensures cause { OnErr result (Rose self.old.faults self.new.faults) }
+        ensures faults { self.old.faults ≤ self.new.faults }
+    {
         if self.begin(file, Call::Write).is_err() {
             self.store.refuse(file, at, piece);
             return Err(Failed);
@@ -183,7 +233,16 @@ impl Disk for MemDisk {
         Ok(())
     }
 
-    fn sync(&mut self, file: File) -> Result<(), Failed> {
+    fn sync(&mut self, file: File) -> Result<(), Failed>
+        ensures planned { IsTrue (fails file Call.Sync self.old.plan) → IsErr result }
+        ensures synced { OnOk result (Some self.new.told ≡ after (Synced file) (Some self.old.told)) }
+        ensures unsynced { OnErr result (self.new.told ≡ self.old.told) }
+        ensures plan { self.new.plan ≡ called file Call.Sync self.old.plan }
+        ensures attached { self.new.attached ≡ self.old.attached }
+        ensures hot { self.new.hot ≡ self.old.hot }
+        ensures cause { OnErr result (Rose self.old.faults self.new.faults) }
+        ensures faults { self.old.faults ≤ self.new.faults }
+    {
         self.begin(file, Call::Sync)?;
         if self.store.sync(file).is_err() {
             return Err(self.fail());

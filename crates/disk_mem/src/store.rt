@@ -3,8 +3,8 @@ ghost use Rattle.std.specs.Prelude.{◌≡◌, ◌≤◌, ◌⊎◌, [], length,
 ghost use Rattle.disk_mem.specs.Crash.{marks_of, picked, unpicked, crashed};
 ghost use Rattle.disk_face.specs.declared.step.Step.TheVariants.{Wrote, Refused, Synced};
 ghost use Rattle.disk_face.specs.Files.{content};
-ghost use Rattle.disk_face.specs.Steps.{reads};
-ghost use Rattle.disk_mem.specs.Store.{fresh, further};
+ghost use Rattle.disk_face.specs.Steps.{reads, further};
+ghost use Rattle.disk_mem.specs.Store.{fresh};
 
 use crate::crash;
 use crate::file::MemFile;

@@ -1,12 +1,12 @@
 -- Laws of varints: where one ends, what it spells, and that the shortest one reads back.
-use Rattle.std.proofs.Common.{append-nil, add-one, inl, inr, pow-suc, ◌≡◌, ℕ, ◌+◌, ◌-◌, ◌*◌, ◌/◌, ◌%◌, ◌^◌, ◌<◌, ◌≤◌, nat_le, zero, suc, false, List, [], ◌∷◌, ◌++◌, length, get_or, map, take, refl, sym, ◌∙◌, arith}
+use Rattle.std.proofs.Common.{true, length-append, append-nil, add-one, inl, inr, pow-suc, ◌≡◌, ℕ, ◌+◌, ◌-◌, ◌*◌, ◌/◌, ◌%◌, ◌^◌, ◌<◌, ◌≤◌, nat_le, zero, suc, false, List, [], ◌∷◌, ◌++◌, length, get_or, map, take, refl, sym, ◌∙◌, arith}
 use Rattle.std.specs.List.{prefix_len, All}
 use Rattle.std.specs.Int.Digits.{number_from_digits}
-use Rattle.std.proofs.lemmas.List.{length-map, length-take, length-take-le, map_more, map_push, get_or-map, get_or-take}
+use Rattle.std.proofs.lemmas.List.{length-map, length-take, length-take-le, map_more, map_push, get_or-map, get_or-take, get_or_append_left, take-append-le}
 use Rattle.std.proofs.lemmas.List.Elements.{All-from_get_or, All-get_or, recursion_from_All}
 use Rattle.std.proofs.lemmas.List.Folds.{length-prefix_len}
 use Rattle.std.proofs.Math.Nat.{pow-le-pow_right}
-use Rattle.std.proofs.lemmas.List.Sums.{prefix_len_is, prefix_len_stops}
+use Rattle.std.proofs.lemmas.List.Sums.{prefix_len_is, prefix_len_stops, prefix_len_passes, prefix_len-le-length}
 use Rattle.std.proofs.lemmas.Bool.{cases_lt, cases_eq}
 use Rattle.std.proofs.lemmas.Bool.Decides.{nat_tests}
 use Rattle.std.proofs.lemmas.Int.Digits.{number_push, number_lt}
@@ -186,6 +186,9 @@ number_below front last are low =
     let top : number_from_digits 128 digits < 128 ^ length front = rw len at high in
     omega arith
 
+true_le : (m n : ℕ) → nat_le m n ≡ true → m ≤ n
+true_le m n h = grind (arith, nat_tests)
+
 false_le : (m n : ℕ) → nat_le m n ≡ false → n < m
 false_le m n h = grind (arith, nat_tests)
 
@@ -232,3 +235,50 @@ shortest_varint_is n small =
       used = begins.used ∙ sym len;
       shortest = λ others are is. omega (arith, no_shorter n others are is);
     }
+
+-- the parts of a whole varint at the front
+varint_parts : (bytes : List ℕ) → varint_size bytes ≤ length bytes
+    → (varint_size bytes - 1 ≤ 8)
+    × ((k : ℕ) → k < varint_size bytes - 1 → 128 ≤ get_or bytes k 0)
+    × (varint_size bytes - 1 < 8 → get_or bytes (varint_size bytes - 1) 0 < 128)
+unfolding carrying varint_size
+varint_parts bytes whole =
+    let first = take 8 bytes in
+    let i = prefix_len (nat_le 128) first in
+    let len : length (take i first) ≡ i = length-prefix_len (nat_le 128) first in
+    let most : i ≤ length first = prefix_len-le-length (nat_le 128) first in
+    let count : length (take i first) + 1 - 1 ≡ i = omega arith in
+    rw count (
+      omega (arith, length-take 8 bytes),
+      (λ k below.
+          let passes = prefix_len_passes (nat_le 128) first k 0 below in
+          rw (get_or-take 8 bytes k 0 (omega (arith, length-take 8 bytes))) at (true_le 128 (get_or first k 0) passes)),
+      (λ less.
+          let stop = prefix_len_stops (nat_le 128) first 0 (omega (arith, length-take 8 bytes)) in
+          rw (get_or-take 8 bytes i 0 less) at (false_le 128 (get_or first i 0) stop)),
+    )
+
+-- what follows a whole varint changes nothing
+pub begins_append : (bytes more : List ℕ) (number size : ℕ) → BeginsWithVarint bytes number size → BeginsWithVarint (bytes ++ more) number size
+begins_append bytes more number size b =
+    let within : varint_size bytes ≤ length bytes = omega (arith, b.used, b.whole) in
+    let parts = varint_parts bytes within in
+    let i = varint_size bytes - 1 in
+    let low : i < length bytes = omega (arith, varint_size_positive bytes) in
+    let alone = varint_is bytes i parts.0 low parts.1 parts.2 in
+    let longer = varint_is (bytes ++ more) i parts.0 (omega (arith, length-append bytes more))
+    (λ k below. rw (get_or_append_left bytes more 0 k (omega arith)) (parts.1 k below))
+    (λ less. rw (get_or_append_left bytes more 0 i low) (parts.2 less)) in
+    let same = rw (take-append-le i bytes more (omega arith), get_or_append_left bytes more 0 i low) at longer in
+    record {
+      spelled = same.spelled ∙ sym alone.spelled ∙ b.spelled;
+      used = same.used ∙ sym alone.used ∙ b.used;
+      whole = omega (arith, length-append bytes more, b.whole);
+    }
+
+-- a varint has 1 to 9 bytes
+pub varint_size_bounds : (bytes : List ℕ) → (1 ≤ varint_size bytes) × (varint_size bytes ≤ 9)
+unfolding carrying varint_size
+varint_size_bounds bytes =
+    let first = take 8 bytes in
+    (omega arith, omega (arith, length-prefix_len (nat_le 128) first, prefix_len-le-length (nat_le 128) first, length-take 8 bytes))

@@ -1,6 +1,7 @@
 -- A page map: the pages of a database, numbered from 1, each a list of bytes of one page size.
 use Rattle.std.specs.Prelude.{◌≡◌, ℕ, ◌≤◌, ◌==◌, if◌then◌else◌, List, [], ◌∷◌, length, drop, slice_index, Contains}
 use Rattle.std.specs.List.{slice_index_or}
+pub use Rattle.page_spec.specs.Header.{page_sizes}
 
 -- the pages of a database, the first of them page 1
 abbrev pub PageMap : Type 0
@@ -29,7 +30,3 @@ pub record Agree (before after : PageMap) (numbers : List ℕ) : Type 0 where
   pub same : (number : ℕ) → Contains numbers number → compared number (page_at before number) ≡ compared number (page_at after number)
   pub page_size : page_size_of before ≡ page_size_of after
   pub reserved : reserved_of before ≡ reserved_of after
-
--- the page sizes that a database may have, in bytes
-abbrev pub page_sizes : List ℕ
-page_sizes = 512 ∷ 1024 ∷ 2048 ∷ 4096 ∷ 8192 ∷ 16384 ∷ 32768 ∷ 65536 ∷ []

@@ -17,7 +17,7 @@ pub legal_size : (s : ℕ) → Contains page_sizes s → 512 ≤ s
 legal_size s there = All-contains (λ (size : ℕ). 512 ≤ size) page_sizes s (All-from_recursion (λ (size : ℕ). 512 ≤ size) page_sizes (search rules)) there
 
 -- the change of a transaction of page lines is one of whole pages of the store
-lines_whole : (change : Change) (s : ℕ) → AreImages s change.changed → change.fresh ≡ [] → IsWhole 16 s change
+pub lines_whole : (change : Change) (s : ℕ) → AreImages s change.changed → change.fresh ≡ [] → IsWhole 16 s change
 lines_whole change s images none = record {
   in_range = λ k d within. (let one = images.in_range k d within in (omega arith, one.1));
   whole = images.whole;

@@ -3,3 +3,5 @@ pub mod PageSets
 pub mod Laying
 pub mod Transactions
 pub mod GoodLines
+pub mod Alone
+pub mod SerialLaw

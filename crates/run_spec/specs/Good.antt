@@ -1,11 +1,11 @@
 -- What makes a change fit to be committed, and what it means that an engine stands for a run.
-use Rattle.std.specs.Prelude.{◌≡◌, ℕ, ◌+◌, ◌*◌, ◌^◌, ◌≤◌, ◌<◌, List, length, take, drop, Contains, Option, Some, All}
-use Rattle.page_spec.specs.PageMap.{PageMap, page_at, page_size_of, Agree}
+use Rattle.std.specs.Prelude.{◌≡◌, ℕ, ◌*◌, ◌^◌, ◌≤◌, List, length, take, Option, Some, All}
+use Rattle.page_spec.specs.PageMap.{PageMap, page_size_of, Agree}
 use Rattle.run_spec.specs.declared.pins.Pin.{Pin}
 use Rattle.run_spec.specs.declared.commits.Mode.{Mode}
 use Rattle.run_spec.specs.declared.commits.Mode.TheVariants.{Plain, Concurrent}
 use Rattle.run_spec.specs.Change.{Change, laid}
-use Rattle.run_spec.specs.History.{Commit, statements_of, is_written, SnapsBefore}
+use Rattle.run_spec.specs.History.{statements_of, SnapsBefore}
 use Rattle.run_spec.specs.Seen.{Seen}
 
 -- the maps on which the change has to be right: for a plain transaction its snapshot alone, for a concurrent one each map that
@@ -32,4 +32,4 @@ pub record RunsFrom (sound : PageMap → Type 0) (leads : PageMap → List (List
   pub snaps : SnapsBefore 0 seen.history
   pub newest : (pages : PageMap) → seen.newest ≡ Some pages → sound pages × leads first (statements_of seen.history) pages
   pub pinned : (pin : Pin) (pages : PageMap) → IsLive pin → map_at pin ≡ Some pages
-    → sound pages × leads first (statements_of (take pin.n seen.history)) pages
+      → sound pages × leads first (statements_of (take pin.n seen.history)) pages

@@ -1,5 +1,5 @@
 -- The text of an answer to a page line.
-use Rattle.std.specs.Prelude.{ℕ, Bool, true, false, if◌then◌else◌, List, [], ◌∷◌, ◌++◌, codes}
+use Rattle.std.specs.Prelude.{ℕ, if◌then◌else◌, List, [], ◌∷◌, ◌++◌, codes}
 use Rattle.std.specs.Fmt.{decimal}
 use Rattle.run_spec.specs.declared.commits.Receipt.{Receipt}
 use Rattle.run_spec.specs.declared.commits.Receipt.TheVariants.{At, ReadOnly}

@@ -1,5 +1,5 @@
 -- What an engine tells of itself, how others may have changed that meanwhile, and what its calls do to it.
-use Rattle.std.specs.Prelude.{◌≡◌, ◌≢◌, ℕ, ◌+◌, ◌*◌, ◌^◌, ◌<◌, ◌≤◌, ◌⊎◌, Bool, true, false, ◌==◌, not, List, [], ◌∷◌, ◌++◌, length, map, filter, Contains, Option, Some, None, is_some, IsSome, IfSome, All}
+use Rattle.std.specs.Prelude.{◌≡◌, ◌≢◌, ℕ, ◌+◌, ◌*◌, ◌^◌, ◌<◌, ◌≤◌, ◌⊎◌, Bool, true, false, ◌==◌, not, List, [], ◌∷◌, ◌++◌, length, map, filter, Option, Some, None, is_some}
 use Rattle.std.specs.Option.{option_map}
 use Rattle.disk_face.specs.Faults.{Rose}
 use Rattle.page_spec.specs.PageMap.{PageMap}
@@ -7,13 +7,13 @@ use Rattle.run_spec.specs.declared.pins.Pin.{Pin}
 use Rattle.run_spec.specs.declared.pins.Lock.{Lock}
 use Rattle.run_spec.specs.declared.pins.Lock.TheVariants.{Part1}
 use Rattle.run_spec.specs.declared.pins.Ckpt.{Ckpt}
-use Rattle.run_spec.specs.declared.pins.Ckpt.TheVariants.{Idle, Held, Copied, Finished}
+use Rattle.run_spec.specs.declared.pins.Ckpt.TheVariants.{Idle}
 use Rattle.run_spec.specs.declared.commits.Receipt.{Receipt}
 use Rattle.run_spec.specs.declared.commits.Receipt.TheVariants.{At, ReadOnly}
 use Rattle.run_spec.specs.declared.commits.CommitFault.{CommitFault}
 use Rattle.run_spec.specs.declared.commits.CommitFault.TheVariants as fault
 use Rattle.run_spec.specs.Change.{Change, laid}
-use Rattle.run_spec.specs.History.{Entry, Commit, IsConflict, NoConflict}
+use Rattle.run_spec.specs.History.{Commit, IsConflict, NoConflict}
 use Rattle.run_spec.specs.Logs.{LogState, lock_of, one_more, one_fewer, change_readers, before_frames, with_frames, Steps}
 
 -- Where a write or sync of a log failed: the log, the offset in it, and the map that the commit would have made, where the
@@ -149,9 +149,10 @@ pub record IsClear (before : Seen) (asked : Submitted) : Type 0 where
 -- the commit that the transaction becomes
 abbrev pub commit_of : Submitted → Commit
 commit_of asked = record {
-    entry = record { session = asked.session; ordinal = asked.ordinal; snap = asked.snap; statements = asked.said };
-    wrote = written asked.change;
-    tail = asked.change.tail }
+  entry = record { session = asked.session; ordinal = asked.ordinal; snap = asked.snap; statements = asked.said };
+  wrote = written asked.change;
+  tail = asked.change.tail;
+}
 
 -- COMMIT went well: the next number, one more commit, and the map that laying the change on the newest one gives.
 pub record IsCommitted (before : Seen) (asked : Submitted) (number : ℕ) (after : Seen) : Type 0 where
@@ -159,12 +160,13 @@ pub record IsCommitted (before : Seen) (asked : Submitted) (number : ℕ) (after
   pub number_is : number ≡ length before.history + 1
   pub faults : before.faults ≤ after.faults
   pub after_is : after ≡ record before {
-      history = before.history ++ commit_of asked ∷ [];
-      own = before.own ++ number ∷ [];
-      newest = option_map (λ pages. laid pages asked.change) before.newest;
-      size = pages_after before asked.change;
-      faults = after.faults;
-      logs = option_map (λ logs. with_frames logs (written asked.change)) before.logs }
+    history = before.history ++ commit_of asked ∷ [];
+    own = before.own ++ number ∷ [];
+    newest = option_map (λ pages. laid pages asked.change) before.newest;
+    size = pages_after before asked.change;
+    faults = after.faults;
+    logs = option_map (λ logs. with_frames logs (written asked.change)) before.logs;
+  }
 
 -- COMMIT is answered well: a transaction that wrote nothing touches nothing.
 abbrev pub Accepts : Seen → Submitted → Receipt → Seen → Type 0
@@ -177,8 +179,8 @@ abbrev pub LeftByFault : Seen → Submitted → Seen → Type 0
 LeftByFault before asked after =
     ((after.stopped ≡ None) × (after.logs ≡ before.logs))
     ⊎ ((stop : Stop) × (after.stopped ≡ Some stop)
-       × (stop.map ≡ option_map (λ pages. laid pages asked.change) before.newest)
-       × ((after.logs ≡ before.logs) ⊎ (after.logs ≡ option_map before_frames before.logs)))
+    × (stop.map ≡ option_map (λ pages. laid pages asked.change) before.newest)
+    × ((after.logs ≡ before.logs) ⊎ (after.logs ≡ option_map before_frames before.logs)))
 
 -- COMMIT is refused, each cause exactly where it stands, in the order of the causes. But for a failed disk nothing is changed.
 abbrev pub Refuses : Seen → Submitted → CommitFault → Seen → Type 0

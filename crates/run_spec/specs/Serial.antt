@@ -1,7 +1,9 @@
 -- What a run of page lines amounts to: the committed transactions ran one after another, and all others saw their snapshot.
-use Rattle.std.specs.Prelude.{◌≡◌, ℕ, ◌+◌, ◌≤◌, List, [], ◌∷◌, ◌++◌, length, map, slice_index, slice_get, Option, Some}
+use Rattle.std.specs.Prelude.{◌≡◌, ℕ, ◌+◌, ◌<◌, ◌≤◌, List, [], ◌∷◌, ◌++◌, length, map, slice_index, slice_get, All, Some}
 use Rattle.page_spec.specs.PageMap.{PageMap, page_at}
 use Rattle.run_spec.specs.declared.commits.Commit.{Commit}
+use Rattle.run_spec.specs.declared.lines.Act.{Act}
+use Rattle.run_spec.specs.declared.lines.Act.TheVariants as act
 use Rattle.run_spec.specs.declared.lines.Told.{Told}
 use Rattle.run_spec.specs.declared.lines.Told.TheVariants as told
 use Rattle.run_spec.specs.PageLines.{Statement, ReadPage, WritePage, statement_text, page_after}
@@ -38,8 +40,28 @@ SeesSnapshot world (Refused transaction) = IsAtSnapshot (map_number world transa
 -- Serial order: each commit in turn, and each transaction that is open or was refused.
 pub record IsSerial (world : World) : Type 0 where
   pub commits : (number : ℕ) (before after : PageMap) (commit : Commit) (answers : List Told)
-    → slice_get world.maps number ≡ Some before → slice_get world.history number ≡ Some commit
-    → slice_get world.answers number ≡ Some answers → slice_get world.maps (number + 1) ≡ Some after
-    → IsSerialCommit number before commit answers after
+      → slice_get world.maps number ≡ Some before → slice_get world.history number ≡ Some commit
+      → slice_get world.answers number ≡ Some answers → slice_get world.maps (number + 1) ≡ Some after
+      → IsSerialCommit number before commit answers after
   pub counts : (length world.maps ≡ length world.history + 1) × (length world.answers ≡ length world.history)
   pub others : (session : ℕ) → SeesSnapshot world (world.sessions session)
+
+-- Serial order from a first map: the commits ran one after another from there.
+pub record IsSerialFrom (first : PageMap) (world : World) : Type 0 where
+  pub begins : slice_get world.maps 0 ≡ Some first
+  pub serial : IsSerial world
+
+-- an act names a page from 2 to 16, and a byte below 256, where it names one
+abbrev pub IsInRange : Act → Type 0
+IsInRange (act.Begin session) = Unit {0}
+IsInRange (act.Read session page) = (2 ≤ page) × (page ≤ 16)
+IsInRange (act.Write session page byte) = (2 ≤ page) × (page ≤ 16) × (byte < 256)
+IsInRange (act.Commit session) = Unit {0}
+IsInRange (act.Rollback session) = Unit {0}
+IsInRange act.Copy = Unit {0}
+IsInRange act.Step = Unit {0}
+IsInRange act.Logs = Unit {0}
+
+-- so do all of these acts
+abbrev pub AreInRange : List Act → Type 0
+AreInRange acts = All IsInRange acts

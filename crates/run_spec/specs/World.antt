@@ -1,7 +1,6 @@
 -- The run of page lines over whole page maps: the world as it stands, and what one act does to it and is answered.
-use Rattle.std.specs.Prelude.{ℕ, ◌+◌, Bool, true, false, ◌==◌, if◌then◌else◌, List, [], ◌∷◌, ◌++◌, length, slice_index, slice_get, replicate, Option, Some, None, unwrap_or, codes}
+use Rattle.std.specs.Prelude.{ℕ, ◌+◌, Bool, true, false, ◌==◌, if◌then◌else◌, List, [], ◌∷◌, ◌++◌, length, slice_index, replicate, Option, Some, None, unwrap_or}
 use Rattle.std.specs.List.{slice_index_or}
-use Rattle.std.specs.Fmt.{decimal}
 use Rattle.page_spec.specs.PageMap.{PageMap, page_at, page_size_of}
 use Rattle.run_spec.specs.declared.commits.PageImage.{PageImage}
 use Rattle.run_spec.specs.declared.commits.Mode.TheVariants.{Concurrent}
@@ -67,17 +66,26 @@ same world told = record { told = told; world = world }
 -- an answer that changes how a session stands
 abbrev pub moved : World → ℕ → SessionState → Told → Outcome
 moved world session state told = record {
-    told = told;
-    world = record world { sessions = changed_at world.sessions session state } }
+  told = told;
+  world = record world { sessions = changed_at world.sessions session state };
+}
 
 -- BEGIN, out of a transaction
 abbrev pub begin : World → ℕ → Outcome
 begin world session = record {
-    told = told.Ok;
-    world = record world {
-        sessions = changed_at world.sessions session (Open (record {
-            snap = length world.history; reads = []; changed = []; said = []; answers = []; wrote = false }));
-        begun = changed_at world.begun session (one_more (world.begun session)) } }
+  told = told.Ok;
+  world = record world {
+    sessions = changed_at world.sessions session (Open (record {
+      snap = length world.history;
+      reads = [];
+      changed = [];
+      said = [];
+      answers = [];
+      wrote = false;
+    }));
+    begun = changed_at world.begun session (one_more (world.begun session));
+  };
+}
 
 -- the bytes that a transaction sees of a page: its own where it wrote the page, else those of its snapshot
 abbrev pub shown : World → Transaction → ℕ → List ℕ
@@ -95,39 +103,55 @@ reads_with transaction page = reads_unless (image_of transaction.changed page) t
 abbrev pub read : World → ℕ → Transaction → ℕ → Outcome
 read world session transaction page = let byte = told.Byte (slice_index (shown world transaction page) 0) in
     moved world session (Open (record transaction {
-        reads = reads_with transaction page;
-        said = transaction.said ++ read_text page ∷ [];
-        answers = transaction.answers ++ byte ∷ [] })) byte
+      reads = reads_with transaction page;
+      said = transaction.said ++ read_text page ∷ [];
+      answers = transaction.answers ++ byte ∷ [];
+    })) byte
 
 -- WRITE p b, in a transaction: every byte of the page is set
 abbrev pub write : World → ℕ → Transaction → ℕ → ℕ → Outcome
 write world session transaction page byte =
     moved world session (Open (record transaction {
-        changed = with_image transaction.changed page (replicate (page_size_of (newest_map world)) byte);
-        said = transaction.said ++ write_text page byte ∷ [];
-        answers = transaction.answers ++ told.Ok ∷ [];
-        wrote = true })) told.Ok
+      changed = with_image transaction.changed page (replicate (page_size_of (newest_map world)) byte);
+      said = transaction.said ++ write_text page byte ∷ [];
+      answers = transaction.answers ++ told.Ok ∷ [];
+      wrote = true;
+    })) told.Ok
 
 -- the change of a transaction of page lines: it makes and frees no page, and leaves page 1
 abbrev pub change_of : World → Transaction → Change
 change_of world transaction = record {
-    mode = Concurrent; base = length (map_number world transaction.snap); changed = transaction.changed; fresh = []; freed = []; tail = false }
+  mode = Concurrent;
+  base = length (map_number world transaction.snap);
+  changed = transaction.changed;
+  fresh = [];
+  freed = [];
+  tail = false;
+}
 
 -- what a transaction of page lines hands in
 abbrev pub submitted : World → ℕ → Transaction → Submitted
 submitted world session transaction = record {
-    snap = transaction.snap; reads = transaction.reads; change = change_of world transaction; said = transaction.said;
-    wrote = transaction.wrote; session = session; ordinal = world.begun session }
+  snap = transaction.snap;
+  reads = transaction.reads;
+  change = change_of world transaction;
+  said = transaction.said;
+  wrote = transaction.wrote;
+  session = session;
+  ordinal = world.begun session;
+}
 
 -- COMMIT that nothing bars: one commit and one map more
 abbrev pub committed : World → ℕ → Transaction → Outcome
 committed world session transaction = record {
-    told = told.Done (At (length world.history + 1));
-    world = record world {
-        maps = world.maps ++ laid (newest_map world) (change_of world transaction) ∷ [];
-        history = world.history ++ commit_of (submitted world session transaction) ∷ [];
-        answers = world.answers ++ transaction.answers ∷ [];
-        sessions = changed_at world.sessions session Out } }
+  told = told.Done (At (length world.history + 1));
+  world = record world {
+    maps = world.maps ++ laid (newest_map world) (change_of world transaction) ∷ [];
+    history = world.history ++ commit_of (submitted world session transaction) ∷ [];
+    answers = world.answers ++ transaction.answers ∷ [];
+    sessions = changed_at world.sessions session Out;
+  };
+}
 
 -- COMMIT of a transaction that wrote, refused exactly where a page that it read was written since
 abbrev pub decided : World → ℕ → Transaction → Option (ℕ × ℕ) → Outcome
@@ -190,7 +214,12 @@ after world (act ∷ acts) = after (step world act).world acts
 -- the world in which nothing has happened yet, over this map
 abbrev pub world_over : PageMap → World
 world_over pages = record {
-    maps = pages ∷ []; history = []; answers = []; sessions = λ session. Out; begun = λ session. 0 }
+  maps = pages ∷ [];
+  history = [];
+  answers = [];
+  sessions = λ session. Out;
+  begun = λ session. 0;
+}
 
 -- the map of a page store in memory: 16 pages of 4096 zeros
 unfoldable pub zeros : PageMap

@@ -84,30 +84,47 @@ fn a_stock_log_is_summed_frame_by_frame(rt: HostRuntime) {
             at: 4
         }
     );
-    let mut sum = sum_step(ZERO, false, &log[..24]);
-    assert_eq!(rt;
-        sum,
-        Sum {
-            s0: 0x4bc5_1480,
-            s1: 0x725b_e3a3
+    // The header's first bytes, then of each frame its first bytes and its page. A checksum is stored in the header and in
+    // each frame.
+    let parts: [(usize, usize, Option<Sum>); 5] = [
+        (
+            0,
+            24,
+            Some(Sum {
+                s0: 0x4bc5_1480,
+                s1: 0x725b_e3a3,
+            }),
+        ),
+        (32, 40, None),
+        (
+            56,
+            568,
+            Some(Sum {
+                s0: 0x910d_d398,
+                s1: 0x1fdb_5a90,
+            }),
+        ),
+        (568, 576, None),
+        (
+            592,
+            1104,
+            Some(Sum {
+                s0: 0x3190_1199,
+                s1: 0x3aba_5d39,
+            }),
+        ),
+    ];
+    let mut sum = ZERO;
+    for (from, to, stored) in parts {
+        assert!(rt; from <= to);
+        assert!(rt; to <= log.len());
+        let part = &log[from..to];
+        assert!(rt; part.len() % 8 == 0);
+        sum = sum_step(sum, false, part);
+        if let Some(stored) = stored {
+            assert_eq!(rt; sum, stored);
         }
-    );
-    sum = sum_step(sum_step(sum, false, &log[32..40]), false, &log[56..568]);
-    assert_eq!(rt;
-        sum,
-        Sum {
-            s0: 0x910d_d398,
-            s1: 0x1fdb_5a90
-        }
-    );
-    sum = sum_step(sum_step(sum, false, &log[568..576]), false, &log[592..]);
-    assert_eq!(rt;
-        sum,
-        Sum {
-            s0: 0x3190_1199,
-            s1: 0x3aba_5d39
-        }
-    );
+    }
 }
 
 #[test]

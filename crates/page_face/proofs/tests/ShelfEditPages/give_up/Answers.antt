@@ -1,4 +1,4 @@
-use Rattle.std.proofs.Common.{◌≡◌, ℕ, List, length, refl, sym, subst, inl, inr}
+use Rattle.std.proofs.Common.{ℕ, List, length, refl, sym, subst, inl, inr}
 use Rattle.std.specs.Prelude.{Contains}
 use Rattle.run_spec.proofs.PageSets.{with_has, with_keeps, with_cases}
 use Rattle.page_face.proofs.Shelf.{bounded_after}
