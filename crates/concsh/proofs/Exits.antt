@@ -1,5 +1,5 @@
 -- How a run ends, from where it stands in its script.
-use Rattle.std.proofs.Common.{◌≡◌, ℕ, ◌+◌, ◌≤◌, ◌<◌, true, false, Bool, cond, List, [], ◌∷◌, ◌++◌, length, length-append, take, Option, Some, None, IfSome, Contains, option_map, is_some, refl, sym, ap, ◌∙◌, subst, arith, append_assoc, inl, inr, ◌⊎◌}
+use Rattle.std.proofs.Common.{◌≡◌, ℕ, ◌+◌, true, false, cond, List, [], ◌∷◌, ◌++◌, length, length-append, take, Option, Some, None, IfSome, Contains, refl, sym, ap, ◌∙◌, subst, arith, inl, inr, ◌⊎◌}
 use Rattle.std.specs.List.{filter_map, cons_option, concat}
 use Rattle.std.proofs.lemmas.List.{take_at, append-nil}
 use Rattle.std.proofs.lemmas.List.Folds.{concat-append}
@@ -23,7 +23,7 @@ use Rattle.concsh.specs.Memory.{StandsAt, IsInRange}
 use Rattle.concsh.specs.Reading.{Reading, script_left, WhereTold, Advances}
 use Rattle.concsh.specs.Outcome.{act_in, acts_in, replies, line_in, lines_run, is_refused, refused_text, text_of, status_of, source_failed, cut_text, PutsFront, IsCut, Ran}
 use Rattle.concsh.proofs.Written.{Puts-more}
-use Rattle.concsh.proofs.Fronts.{PutsFront-text, PutsFront-after, Puts-nothing}
+use Rattle.concsh.proofs.Fronts.{PutsFront-after}
 use Rattle.concsh.proofs.Standing.{Standing, Standing-start, Standing-more, told_then, left_after, nothing_left, lines-stop, refused-stop, lines-more, text-front, replies-more}
 
 -- each of the statuses of a run

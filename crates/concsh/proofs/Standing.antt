@@ -1,7 +1,6 @@
 -- Where a run stands in its script.
-use Rattle.std.proofs.Common.{◌≡◌, ℕ, ◌+◌, ◌≤◌, true, false, Bool, cond, List, [], ◌∷◌, ◌++◌, length, length-append, take, Option, Some, None, IfSome, option_map, is_some, refl, sym, ap, ◌∙◌, subst, arith, append_assoc, inl, inr, ◌⊎◌}
-use Rattle.std.specs.List.{filter_map, concat}
-use Rattle.std.proofs.lemmas.List.{take_at, append-nil}
+use Rattle.std.proofs.Common.{◌≡◌, ℕ, ◌+◌, true, cond, List, [], ◌∷◌, ◌++◌, length, length-append, Option, Some, None, IfSome, option_map, is_some, refl, sym, ap, ◌∙◌, subst, arith, append_assoc}
+use Rattle.std.specs.List.{filter_map}
 use Rattle.std.proofs.lemmas.List.Elements.{filter_map-append}
 use Rattle.std.proofs.lemmas.Option.{same_Some}
 use Rattle.disk_face.specs.Sink.{Puts}
@@ -9,15 +8,13 @@ use Rattle.run_spec.specs.declared.lines.Act.{Act}
 use Rattle.run_spec.specs.Reply.{reply_text, session_of}
 use Rattle.run_spec.specs.World.{World, step, start, after}
 use Rattle.script.specs.declared.grammar.Line.{Line}
-use Rattle.script.specs.Raw.{HasNoEnd, raw_lines, is_within, text_of_raw}
-use Rattle.script.proofs.Lines.{concat-raw_lines}
-use Rattle.concsh.specs.declared.lines.Next.TheVariants as next
+use Rattle.script.specs.Raw.{raw_lines}
 use Rattle.concsh.specs.declared.memory.InMemory.{InMemory}
 use Rattle.concsh.specs.Memory.{StandsAt}
-use Rattle.concsh.specs.Reading.{Reading, script_left, WhereTold, Advances}
-use Rattle.concsh.specs.Outcome.{act_in, acts_in, replies, line_in, line_before, lines_run, is_refused, refused_text, text_of, status_of, source_failed, cut_text, PutsFront, IsCut, Ran}
+use Rattle.concsh.specs.Reading.{WhereTold}
+use Rattle.concsh.specs.Outcome.{act_in, acts_in, replies, line_in, line_before, lines_run, is_refused, refused_text, text_of}
 use Rattle.concsh.proofs.Written.{Puts-more}
-use Rattle.concsh.proofs.Fronts.{Puts-nothing, PutsFront-text, PutsFront-after}
+use Rattle.concsh.proofs.Fronts.{Puts-nothing}
 
 -- So many lines of the script were run and answered, and the rest of it is left.
 pub record Standing (script : List ℕ) (number passed : ℕ) (left before now : Option (List ℕ)) (memory : InMemory) : Type 0 where

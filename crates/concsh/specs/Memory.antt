@@ -1,5 +1,5 @@
 -- The run in memory that the acts go to.
-use Rattle.std.specs.Prelude.{ℕ, ◌≤◌}
+use Rattle.std.specs.Prelude.{◌≤◌}
 use Rattle.run_spec.specs.World.{World}
 use Rattle.run_spec.specs.declared.lines.Act.{Act}
 use Rattle.run_spec.specs.declared.lines.Act.TheVariants as act

@@ -1,4 +1,4 @@
-use Rattle.std.proofs.Common.{refl, ◌∙◌, arith, IfSome}
+use Rattle.std.proofs.Common.{refl, ◌∙◌, arith}
 use Rattle.concsh.specs.declared.lines.Next.TheVariants as next
 use Rattle.concsh.specs.Reading.{script_left}
 use Rattle.concsh.specs.Outcome.{Ran}

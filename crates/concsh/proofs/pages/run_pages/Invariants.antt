@@ -1,4 +1,4 @@
-use Rattle.std.proofs.Common.{◌≡◌, ℕ, ◌≤◌, ◌+◌, ◌-◌, IfSome}
+use Rattle.std.proofs.Common.{◌≡◌, ◌≤◌, ◌+◌, ◌-◌, IfSome}
 use Rattle.script.specs.Raw.{script_limit}
 use Rattle.concsh.specs.Reading.{script_left}
 use Rattle.concsh.proofs.Standing.{Standing}
