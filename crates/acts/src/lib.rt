@@ -2,7 +2,7 @@
 #![tactic(auto)]
 
 mod conflict;
-
+mod in_memory;
 mod lay;
 mod pagers;
 mod plain;
@@ -12,6 +12,7 @@ mod shared_page;
 mod transaction;
 mod turns;
 
+pub use in_memory::InMemory;
 pub use pagers::Pagers;
 pub use plain::Plain;
 pub use raw::Raw;
