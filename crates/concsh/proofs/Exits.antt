@@ -18,8 +18,7 @@ use Rattle.script.specs.Raw.{HasNoEnd, raw_lines, is_within, text_of_raw}
 use Rattle.script.proofs.Lines.{concat-raw_lines}
 use Rattle.concsh.specs.declared.lines.Next.{Next}
 use Rattle.concsh.specs.declared.lines.Next.TheVariants as next
-use Rattle.concsh.specs.declared.memory.InMemory.{InMemory}
-use Rattle.concsh.specs.Memory.{StandsAt, IsInRange}
+use Rattle.concsh.specs.Memory.{Memory, IsAt, IsInRange}
 use Rattle.concsh.specs.Reading.{Reading, script_left, WhereTold, Advances}
 use Rattle.concsh.specs.Outcome.{act_in, acts_in, replies, line_in, lines_run, is_refused, refused_text, text_of, status_of, source_failed, cut_text, PutsFront, IsCut, Ran}
 use Rattle.concsh.proofs.Written.{Puts-more}
@@ -103,7 +102,7 @@ Ran_7 script left before now front = record {
 }
 
 -- a run that has begun
-pub started : (left before : Option (List ℕ)) (lines : Reading) (memory : InMemory) → lines.pending ≡ [] → lines.passed ≡ 0 → StandsAt memory start → IfSome left (λ script. Standing script 1 lines.passed (script_left lines left) before before memory)
+pub started : (left before : Option (List ℕ)) (lines : Reading) (memory : Memory) → lines.pending ≡ [] → lines.passed ≡ 0 → IsAt memory start → IfSome left (λ script. Standing script 1 lines.passed (script_left lines left) before before memory)
 started None before lines memory none zero world = tt
 started (Some script) before lines memory none zero world =
     subst (λ p. Standing script 1 p (script_left lines (Some script)) before before memory) (sym zero)
@@ -114,7 +113,7 @@ unfolding raw_lines
 no_lines = refl
 
 -- the script is at its end
-pub ended : (from left left' before now : Option (List ℕ)) (number : ℕ) (old new : Reading) (memory : InMemory) → IfSome from (λ script. Standing script number old.passed (script_left old left) before now memory) → WhereTold (script_left old left) (script_left new left') (Advances next.End old new) → IfSome from (λ script. Ran script 0 left' before now)
+pub ended : (from left left' before now : Option (List ℕ)) (number : ℕ) (old new : Reading) (memory : Memory) → IfSome from (λ script. Standing script number old.passed (script_left old left) before now memory) → WhereTold (script_left old left) (script_left new left') (Advances next.End old new) → IfSome from (λ script. Ran script 0 left' before now)
 ended None left left' before now number old new memory s onward = tt
 ended (Some script) left left' before now number old new memory s onward =
     let later = told_then (script_left old left) (script_left new left') s.rest (Advances next.End old new) s.told onward in
@@ -128,7 +127,7 @@ ended (Some script) left left' before now number old new memory s onward =
     Ran_0 script left' before now (ap (λ b. cond b 1 0) taken) (nothing_left new.pending left' (later.1 ∙ ap Some later.2.1)) (subst (λ x. Puts before x now) (sym text) s.written)
 
 -- the next line is refused
-pub refused_there : (script : List ℕ) (number passed status : ℕ) (left left' before mid now : Option (List ℕ)) (memory : InMemory) (raw : List ℕ) (raws : List (List ℕ)) (s : Standing script number passed left before mid memory) → raw_lines s.rest ≡ raw ∷ raws → line_in passed raw ≡ None → ((status ≡ 1) × Puts mid (refused_text number) now) ⊎ (((status ≡ 4) ⊎ (status ≡ 7)) × PutsFront mid (refused_text number) now) → Ran script status left' before now
+pub refused_there : (script : List ℕ) (number passed status : ℕ) (left left' before mid now : Option (List ℕ)) (memory : Memory) (raw : List ℕ) (raws : List (List ℕ)) (s : Standing script number passed left before mid memory) → raw_lines s.rest ≡ raw ∷ raws → line_in passed raw ≡ None → ((status ≡ 1) × Puts mid (refused_text number) now) ⊎ (((status ≡ 4) ⊎ (status ≡ 7)) × PutsFront mid (refused_text number) now) → Ran script status left' before now
 refused_there script number passed status left left' before mid now memory raw raws s first none said =
     let done = replies start (filter_map act_in s.ran) in
     let all : lines_run 0 (raw_lines script) ≡ s.ran =
@@ -151,7 +150,7 @@ refused_there script number passed status left left' before mid now memory raw r
     ]
 
 -- a line past a limit
-pub past_limit : (from left left' before mid now : Option (List ℕ)) (number status : ℕ) (old new : Reading) (memory : InMemory) → IfSome from (λ script. Standing script number old.passed (script_left old left) before mid memory) → WhereTold (script_left old left) (script_left new left') (Advances next.Refused old new) → ((status ≡ 1) × Puts mid (refused_text number) now) ⊎ (((status ≡ 4) ⊎ (status ≡ 7)) × PutsFront mid (refused_text number) now) → IfSome from (λ script. Ran script status left' before now)
+pub past_limit : (from left left' before mid now : Option (List ℕ)) (number status : ℕ) (old new : Reading) (memory : Memory) → IfSome from (λ script. Standing script number old.passed (script_left old left) before mid memory) → WhereTold (script_left old left) (script_left new left') (Advances next.Refused old new) → ((status ≡ 1) × Puts mid (refused_text number) now) ⊎ (((status ≡ 4) ⊎ (status ≡ 7)) × PutsFront mid (refused_text number) now) → IfSome from (λ script. Ran script status left' before now)
 past_limit None left left' before mid now number status old new memory s onward said = tt
 past_limit (Some script) left left' before mid now number status old new memory s onward said =
     let later = told_then (script_left old left) (script_left new left') s.rest (Advances next.Refused old new) s.told onward in
@@ -165,7 +164,7 @@ read_as passed raw given text said same cut meaning within =
     ap (λ b. cond b (line_of Pages (text_of_raw raw)) None) within ∙ sym (meaning ∙ ap (line_of Pages) (cut ∙ ap text_of_raw same))
 
 -- a line that isn't in the grammar
-pub not_in_grammar : (from left left' before mid now : Option (List ℕ)) (number status : ℕ) (old new : Reading) (memory : InMemory) (given text : List ℕ) → IfSome from (λ script. Standing script number old.passed (script_left old left) before mid memory) → WhereTold (script_left old left) (script_left new left') (Advances next.Line old new) → given ≡ new.line → text ≡ text_of_raw given → None ≡ line_of Pages text → ((status ≡ 1) × Puts mid (refused_text number) now) ⊎ (((status ≡ 4) ⊎ (status ≡ 7)) × PutsFront mid (refused_text number) now) → IfSome from (λ script. Ran script status left' before now)
+pub not_in_grammar : (from left left' before mid now : Option (List ℕ)) (number status : ℕ) (old new : Reading) (memory : Memory) (given text : List ℕ) → IfSome from (λ script. Standing script number old.passed (script_left old left) before mid memory) → WhereTold (script_left old left) (script_left new left') (Advances next.Line old new) → given ≡ new.line → text ≡ text_of_raw given → None ≡ line_of Pages text → ((status ≡ 1) × Puts mid (refused_text number) now) ⊎ (((status ≡ 4) ⊎ (status ≡ 7)) × PutsFront mid (refused_text number) now) → IfSome from (λ script. Ran script status left' before now)
 not_in_grammar None left left' before mid now number status old new memory given text s onward same cut meaning said = tt
 not_in_grammar (Some script) left left' before mid now number status old new memory given text s onward same cut meaning said =
     let later = told_then (script_left old left) (script_left new left') s.rest (Advances next.Line old new) s.told onward in
@@ -173,7 +172,7 @@ not_in_grammar (Some script) left left' before mid now number status old new mem
     (read_as old.passed new.line given text None same cut meaning later.2.1) said
 
 -- the script, from the lines that were run and what is left
-pub script_cut : (script : List ℕ) (number passed : ℕ) (left before now : Option (List ℕ)) (memory : InMemory) (s : Standing script number passed left before now memory) → script ≡ concat (take (length s.ran) (raw_lines script)) ++ s.rest
+pub script_cut : (script : List ℕ) (number passed : ℕ) (left before now : Option (List ℕ)) (memory : Memory) (s : Standing script number passed left before now memory) → script ≡ concat (take (length s.ran) (raw_lines script)) ++ s.rest
 script_cut script number passed left before now memory s =
     let first : take (length s.ran) (raw_lines script) ≡ s.raws = ap (take (length s.ran)) s.cut ∙ take_at s.raws (raw_lines s.rest) (length s.ran) s.same in
     sym (concat-raw_lines script)
@@ -182,7 +181,7 @@ script_cut script number passed left before now memory s =
     ∙ (ap (λ x. concat s.raws ++ x) (concat-raw_lines s.rest) ∙ ap (λ x. concat x ++ s.rest) (sym first))))
 
 -- the source failed
-pub cut_there : (from left left' before mid now : Option (List ℕ)) (number status : ℕ) (old new : Reading) (memory : InMemory) → IfSome from (λ script. Standing script number old.passed (script_left old left) before mid memory) → script_left new left' ≡ script_left old left → HasNoEnd new.pending → ((status ≡ 3) × Puts mid source_failed now) ⊎ ((status ≡ 4) × PutsFront mid source_failed now) → IfSome from (λ script. Ran script status left' before now)
+pub cut_there : (from left left' before mid now : Option (List ℕ)) (number status : ℕ) (old new : Reading) (memory : Memory) → IfSome from (λ script. Standing script number old.passed (script_left old left) before mid memory) → script_left new left' ≡ script_left old left → HasNoEnd new.pending → ((status ≡ 3) × Puts mid source_failed now) ⊎ ((status ≡ 4) × PutsFront mid source_failed now) → IfSome from (λ script. Ran script status left' before now)
 cut_there None left left' before mid now number status old new memory s same unended said = tt
 cut_there (Some script) left left' before mid now number status old new memory s same unended said =
     let done = replies start (filter_map act_in s.ran) in
@@ -218,7 +217,7 @@ in_range line.Step text spelled = tt
 in_range line.Logs text spelled = tt
 
 -- a front of the reply to the next line was written
-pub front_there : (from left left' before mid now : Option (List ℕ)) (number : ℕ) (old new : Reading) (memory : InMemory) (given text : List ℕ) (said : Line) (P : List ℕ → Type 0) → IfSome from (λ script. Standing script number old.passed (script_left old left) before mid memory) → WhereTold (script_left old left) (script_left new left') (Advances next.Line old new) → given ≡ new.line → text ≡ text_of_raw given → Some said ≡ line_of Pages text → ((world : World) → StandsAt memory world → PutsFront mid (replies world (acts_in said)) now) → ((script : List ℕ) → PutsFront before (text_of script) now → P script) → IfSome from P
+pub front_there : (from left left' before mid now : Option (List ℕ)) (number : ℕ) (old new : Reading) (memory : Memory) (given text : List ℕ) (said : Line) (P : List ℕ → Type 0) → IfSome from (λ script. Standing script number old.passed (script_left old left) before mid memory) → WhereTold (script_left old left) (script_left new left') (Advances next.Line old new) → given ≡ new.line → text ≡ text_of_raw given → Some said ≡ line_of Pages text → ((world : World) → IsAt memory world → PutsFront mid (replies world (acts_in said)) now) → ((script : List ℕ) → PutsFront before (text_of script) now → P script) → IfSome from P
 front_there None left left' before mid now number old new memory given text said P s onward same cut meaning front result = tt
 front_there (Some script) left left' before mid now number old new memory given text said P s onward same cut meaning front result =
     let later = told_then (script_left old left) (script_left new left') s.rest (Advances next.Line old new) s.told onward in
@@ -230,7 +229,7 @@ front_there (Some script) left left' before mid now number old new memory given 
     (ap (λ x. x ++ last.0) (sym (replies-more s.ran said)) ∙ last.1))
 
 -- the next line was run
-pub goes_on : (from left left' before mid now : Option (List ℕ)) (number : ℕ) (old new : Reading) (memory memory' : InMemory) (given text : List ℕ) (said : Line) → IfSome from (λ script. Standing script number old.passed (script_left old left) before mid memory) → WhereTold (script_left old left) (script_left new left') (Advances next.Line old new) → given ≡ new.line → text ≡ text_of_raw given → Some said ≡ line_of Pages text → ((world : World) → StandsAt memory world → StandsAt memory' (after world (acts_in said)) × Puts mid (replies world (acts_in said)) now) → IfSome from (λ script. Standing script (number + 1) new.passed (script_left new left') before now memory')
+pub goes_on : (from left left' before mid now : Option (List ℕ)) (number : ℕ) (old new : Reading) (memory memory' : Memory) (given text : List ℕ) (said : Line) → IfSome from (λ script. Standing script number old.passed (script_left old left) before mid memory) → WhereTold (script_left old left) (script_left new left') (Advances next.Line old new) → given ≡ new.line → text ≡ text_of_raw given → Some said ≡ line_of Pages text → ((world : World) → IsAt memory world → IsAt memory' (after world (acts_in said)) × Puts mid (replies world (acts_in said)) now) → IfSome from (λ script. Standing script (number + 1) new.passed (script_left new left') before now memory')
 goes_on None left left' before mid now number old new memory memory' given text said s onward same cut meaning ran = tt
 goes_on (Some script) left left' before mid now number old new memory memory' given text said s onward same cut meaning ran =
     let later = told_then (script_left old left) (script_left new left') s.rest (Advances next.Line old new) s.told onward in

@@ -5,3 +5,4 @@ pub mod Words
 pub mod Fronts
 pub mod Standing
 pub mod Exits
+pub mod Serial

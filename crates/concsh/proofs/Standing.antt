@@ -9,15 +9,14 @@ use Rattle.run_spec.specs.Reply.{reply_text, session_of}
 use Rattle.run_spec.specs.World.{World, step, start, after}
 use Rattle.script.specs.declared.grammar.Line.{Line}
 use Rattle.script.specs.Raw.{raw_lines}
-use Rattle.concsh.specs.declared.memory.InMemory.{InMemory}
-use Rattle.concsh.specs.Memory.{StandsAt}
+use Rattle.concsh.specs.Memory.{Memory, IsAt}
 use Rattle.concsh.specs.Reading.{WhereTold}
 use Rattle.concsh.specs.Outcome.{act_in, acts_in, replies, line_in, line_before, lines_run, is_refused, refused_text, text_of}
 use Rattle.concsh.proofs.Written.{Puts-more}
 use Rattle.concsh.proofs.Fronts.{Puts-nothing}
 
 -- So many lines of the script were run and answered, and the rest of it is left.
-pub record Standing (script : List ℕ) (number passed : ℕ) (left before now : Option (List ℕ)) (memory : InMemory) : Type 0 where
+pub record Standing (script : List ℕ) (number passed : ℕ) (left before now : Option (List ℕ)) (memory : Memory) : Type 0 where
   pub ran : List Line
   pub raws : List (List ℕ)
   pub rest : List ℕ
@@ -28,10 +27,10 @@ pub record Standing (script : List ℕ) (number passed : ℕ) (left before now :
   pub lines : lines_run 0 (raw_lines script) ≡ ran ++ lines_run passed (raw_lines rest)
   pub refused : is_refused 0 (raw_lines script) ≡ is_refused passed (raw_lines rest)
   pub written : Puts before (replies start (filter_map act_in ran)) now
-  pub world : StandsAt memory (after start (filter_map act_in ran))
+  pub world : IsAt memory (after start (filter_map act_in ran))
 
 -- a run that has begun
-pub Standing-start : (script : List ℕ) (left before : Option (List ℕ)) (memory : InMemory) → left ≡ Some script → StandsAt memory start → Standing script 1 0 left before before memory
+pub Standing-start : (script : List ℕ) (left before : Option (List ℕ)) (memory : Memory) → left ≡ Some script → IsAt memory start → Standing script 1 0 left before before memory
 Standing-start script left before memory told world = record {
   ran = []; raws = []; rest = script; told = told; count = refl; same = refl; cut = refl; lines = refl; refused = refl;
   written = Puts-nothing before; world = world;
@@ -103,13 +102,13 @@ pub refused-stop : (passed : ℕ) (raw : List ℕ) (raws : List (List ℕ)) → 
 refused-stop passed raw raws e = ap (λ o. cond (is_some o) (is_refused (passed + length raw) raws) true) e
 
 -- the lines of a script, where the next of them is taken
-pub lines-more : (script : List ℕ) (number passed : ℕ) (left before now : Option (List ℕ)) (memory : InMemory) (raw rest' : List ℕ) (line : Line) → (s : Standing script number passed left before now memory) → raw_lines s.rest ≡ raw ∷ raw_lines rest' → line_in passed raw ≡ Some line → lines_run 0 (raw_lines script) ≡ (s.ran ++ line ∷ []) ++ lines_run (passed + length raw) (raw_lines rest')
+pub lines-more : (script : List ℕ) (number passed : ℕ) (left before now : Option (List ℕ)) (memory : Memory) (raw rest' : List ℕ) (line : Line) → (s : Standing script number passed left before now memory) → raw_lines s.rest ≡ raw ∷ raw_lines rest' → line_in passed raw ≡ Some line → lines_run 0 (raw_lines script) ≡ (s.ran ++ line ∷ []) ++ lines_run (passed + length raw) (raw_lines rest')
 lines-more script number passed left before now memory raw rest' line s first taken =
     s.lines ∙ (ap (λ x. s.ran ++ x) (ap (lines_run passed) first ∙ lines-next passed raw (raw_lines rest') line taken)
     ∙ sym (append_assoc s.ran (line ∷ []) (lines_run (passed + length raw) (raw_lines rest'))))
 
 -- one line more was run
-pub Standing-more : (script : List ℕ) (number passed passed' : ℕ) (left left' before now now' : Option (List ℕ)) (memory memory' : InMemory) (raw rest' : List ℕ) (line : Line) → (s : Standing script number passed left before now memory) → left' ≡ Some rest' → raw_lines s.rest ≡ raw ∷ raw_lines rest' → passed' ≡ passed + length raw → line_in passed raw ≡ Some line → Puts now (replies (after start (filter_map act_in s.ran)) (acts_in line)) now' → StandsAt memory' (after (after start (filter_map act_in s.ran)) (acts_in line)) → Standing script (number + 1) passed' left' before now' memory'
+pub Standing-more : (script : List ℕ) (number passed passed' : ℕ) (left left' before now now' : Option (List ℕ)) (memory memory' : Memory) (raw rest' : List ℕ) (line : Line) → (s : Standing script number passed left before now memory) → left' ≡ Some rest' → raw_lines s.rest ≡ raw ∷ raw_lines rest' → passed' ≡ passed + length raw → line_in passed raw ≡ Some line → Puts now (replies (after start (filter_map act_in s.ran)) (acts_in line)) now' → IsAt memory' (after (after start (filter_map act_in s.ran)) (acts_in line)) → Standing script (number + 1) passed' left' before now' memory'
 Standing-more script number passed passed' left left' before now now' memory memory' raw rest' line s told first size taken written world = record {
   ran = s.ran ++ line ∷ [];
   raws = s.raws ++ raw ∷ [];
@@ -122,5 +121,5 @@ Standing-more script number passed passed' left left' before now now' memory mem
     ∙ ap (λ p. (s.ran ++ line ∷ []) ++ lines_run p (raw_lines rest')) (sym size);
   refused = s.refused ∙ (ap (is_refused passed) first ∙ (refused-next passed raw (raw_lines rest') line taken ∙ ap (λ p. is_refused p (raw_lines rest')) (sym size)));
   written = subst (λ x. Puts before x now') (sym (replies-more s.ran line)) (Puts-more before now now' (replies start (filter_map act_in s.ran)) (replies (after start (filter_map act_in s.ran)) (acts_in line)) s.written written);
-  world = subst (StandsAt memory') (sym (after-more s.ran line)) world;
+  world = subst (IsAt memory') (sym (after-more s.ran line)) world;
 }

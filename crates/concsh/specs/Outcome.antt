@@ -71,6 +71,10 @@ abbrev pub text_from : World → ℕ → ℕ → List (List ℕ) → List ℕ
 text_from world number passed raws = replies world (filter_map act_in (lines_run passed raws))
     ++ (if is_refused passed raws then refused_text (number + length (lines_run passed raws)) else [])
 
+-- the acts of a script that are run
+abbrev pub acts_run : List ℕ → List Act
+acts_run script = filter_map act_in (lines_run 0 (raw_lines script))
+
 -- the status of a run over the whole script: 1 where one of its lines is refused, else 0
 abbrev pub status_of : List ℕ → ℕ
 status_of script = if is_refused 0 (raw_lines script) then 1 else 0

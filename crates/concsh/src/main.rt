@@ -6,6 +6,8 @@ mod memory;
 mod output;
 mod pages;
 mod reply;
+#[cfg(test)]
+mod tests;
 mod top;
 
 use disk_face::Word;

@@ -4,7 +4,7 @@ ghost use Rattle.disk_face.specs.Faults.{Rose};
 ghost use Rattle.disk_face.specs.Sink.{Puts};
 ghost use Rattle.run_spec.specs.Reply.{reply_text, session_of};
 ghost use Rattle.run_spec.specs.World.{World, step, after};
-ghost use Rattle.concsh.specs.Memory.{StandsAt, IsInRange};
+ghost use Rattle.concsh.specs.Memory.{IsAt, IsInRange};
 ghost use Rattle.concsh.specs.Outcome.{act_in, acts_in, page_act, replies, refused_text, source_failed, PutsFront, Ran};
 
 use crate::lines::{LineReader, Next};
@@ -62,17 +62,18 @@ pub fn run_pages<S: Source, K: Sink>(alloc: Global, src: &mut S, out: &mut K) ->
 }
 
 /// Does what the line asks for, if it asks for something, and writes the reply, whose text is made in this buffer.
-/// After an error a front of the reply is written, and nothing is said of the memory.
+/// After an error a front of the reply is written.
 fn run_line<K: Sink>(
     memory: &mut InMemory,
     line: Line,
     text: &mut Vec<u8>,
     out: &mut K,
 ) -> Result<(), Unanswered>
-    requires { IfSome (act_in line) IsInRange }
-    ensures ok { (world : World) → StandsAt memory.old world → OnOk result (StandsAt memory.new (after world (acts_in line))
+    requires range { IfSome (act_in line) IsInRange }
+    requires stands { (world : World) × IsAt memory.old world }
+    ensures ok { (world : World) → IsAt memory.old world → OnOk result (IsAt memory.new (after world (acts_in line))
         × Puts (K.written out.old) (replies world (acts_in line)) (K.written out.new)) }
-    ensures err { (world : World) → StandsAt memory.old world
+    ensures err { (world : World) → IsAt memory.old world
         → OnErr result (PutsFront (K.written out.old) (replies world (acts_in line)) (K.written out.new)) }
     ensures sink { result ≡ Err Unanswered.Sink → Rose (K.faults out.old) (K.faults out.new) }
     ensures faults { K.faults out.old ≤ K.faults out.new }
@@ -127,17 +128,18 @@ fn session_of(act: Act) -> u32
 }
 
 /// Does what the act asks for, and writes the reply, whose text is made in this buffer.
-/// After an error a front of the reply is written, and nothing is said of the memory.
+/// After an error a front of the reply is written.
 fn answer<K: Sink>(
     memory: &mut InMemory,
     act: Act,
     text: &mut Vec<u8>,
     out: &mut K,
 ) -> Result<(), Unanswered>
-    requires { IsInRange act }
-    ensures ok { (world : World) → StandsAt memory.old world → OnOk result (StandsAt memory.new (step world act).world
+    requires range { IsInRange act }
+    requires stands { (world : World) × IsAt memory.old world }
+    ensures ok { (world : World) → IsAt memory.old world → OnOk result (IsAt memory.new (step world act).world
         × Puts (K.written out.old) (reply_text (session_of act) (step world act).told) (K.written out.new)) }
-    ensures err { (world : World) → StandsAt memory.old world
+    ensures err { (world : World) → IsAt memory.old world
         → OnErr result (PutsFront (K.written out.old) (reply_text (session_of act) (step world act).told) (K.written out.new)) }
     ensures sink { result ≡ Err Unanswered.Sink → Rose (K.faults out.old) (K.faults out.new) }
     ensures faults { K.faults out.old ≤ K.faults out.new }

@@ -1,8 +1,10 @@
 // The whole program, over any disk, source, sink and random words.
-ghost use Rattle.std.specs.Prelude.{◌≡◌, ℕ, ◌≤◌, [], ◌∷◌, ◌⊎◌, ◌↔◌, IsTrue, IfSome, Contains};
+ghost use Rattle.std.specs.Prelude.{◌≡◌, ℕ, ◌≤◌, [], ◌∷◌, ◌⊎◌, ◌↔◌, IsTrue, IfSome, Contains, take};
 ghost use Rattle.disk_face.specs.Faults.{Rose};
 ghost use Rattle.disk_face.specs.Sink.{Puts};
-ghost use Rattle.concsh.specs.Outcome.{IsPages, status_of, words_refused, PutsFront, Ran};
+ghost use Rattle.run_spec.specs.Serial.{IsSerialFrom};
+ghost use Rattle.run_spec.specs.World.{zeros, start, after};
+ghost use Rattle.concsh.specs.Outcome.{IsPages, acts_run, status_of, words_refused, PutsFront, Ran};
 
 use crate::output::write_all;
 use crate::pages::run_pages;
@@ -46,6 +48,11 @@ pub fn top<D: Disk, S: Source, K: Sink, W: Salts>(
     // Where neither failed, the status is the script's, or memory ran out.
     ensures complete { IsPages words.now → ¬ Rose (S.faults src.old) (S.faults src.new) → ¬ Rose (K.faults out.old) (K.faults out.new)
         → IfSome (S.left src.old) (λ script. (result ≡ status_of script) ⊎ (result ≡ 7)) }
+
+    // At each moment of the run its transactions are serial: those committed ran one after another from a map of zeros, and all
+    // others were told what they would have been told alone at their snapshot.
+    ensures serial { IsPages words.now → IfSome (S.left src.old) (λ script.
+        (count : ℕ) → IsSerialFrom zeros (after start (take count (acts_run script)))) }
 
     // A run in memory leaves the disk and the random words alone.
     ensures in_memory { IsPages words.now → (disk.new ≡ disk.old) × (salts.new ≡ salts.old) }

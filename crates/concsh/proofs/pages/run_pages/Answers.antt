@@ -1,13 +1,15 @@
 use Rattle.std.proofs.Common.{refl, ◌∙◌, arith}
 use Rattle.concsh.specs.declared.lines.Next.TheVariants as next
 use Rattle.concsh.specs.Reading.{script_left}
-use Rattle.concsh.specs.Outcome.{Ran}
+use Rattle.run_spec.specs.World.{start, after}
+use Rattle.concsh.specs.Outcome.{acts_in, Ran}
 use Rattle.concsh.proofs.Exits.{status_4, status_7, status_said, status_cut, started, ended, past_limit, not_in_grammar, cut_there, in_range, front_there, goes_on, as_next, Ran_4, Ran_7}
 use Rattle.concsh.proofs.pages.run_pages.Goals as goal
 
 pub lines-init : goal.lines-init
 lines-init g c = record {
   standing = started (g.S.Source.left c.args.src.now) (g.K.Sink.written c.args.out.now) c.in-Ok-new.lines c.in-Ok.memory c.in-Ok-new.ensures.1 c.in-Ok-new.ensures.2 c.in-Ok.ensures;
+  stands = (start, c.in-Ok.ensures);
   number = omega arith;
   limit = omega (arith, c.in-Ok-new.ensures.2);
   source_faults = omega arith;
@@ -41,8 +43,8 @@ pub returns-in_default-read_line-clause-script : goal.returns-in_default-read_li
 returns-in_default-read_line-clause-script g c =
     not_in_grammar (g.S.Source.left c.args.src.now) (g.S.Source.left c.lines.src) (g.S.Source.left c.advance.new.src) (g.K.Sink.written c.args.out.now) (g.K.Sink.written c.lines.out) (g.K.Sink.written c.say_refused-in_default-read_line.new.out) c.lines.number c.say_refused-in_default-read_line.result c.lines.lines c.advance.new.self c.lines.memory c.line.result.now c.line_text.result.now c.lines.invariant.standing (as_next c.in-Ok-Line.field-0 next.Line c.in-Ok-Line.field-0-is (script_left c.lines.lines (g.S.Source.left c.lines.src)) (script_left c.advance.new.self (g.S.Source.left c.advance.new.src)) c.lines.lines c.advance.new.self c.in-Ok-Line.ensures.next) c.line.ensures c.line_text.ensures c.in_default-read_line.ensures.meaning c.say_refused-in_default-read_line.ensures.said
 
-pub run_line-requires : goal.run_line-requires
-run_line-requires g c = in_range c.in-Some.line c.line_text.result.now c.in-Some.ensures.spelled
+pub run_line-requires-clause-range : goal.run_line-requires-clause-range
+run_line-requires-clause-range g c = in_range c.in-Some.line c.line_text.result.now c.in-Some.ensures.spelled
 
 pub returns-in-Err-Sink-clause-statuses : goal.returns-in-Err-Sink-clause-statuses
 returns-in-Err-Sink-clause-statuses g c = status_4
@@ -70,6 +72,7 @@ lines-preserved g c =
     let onward = c.in-Ok-Line.ensures.progress c.in-Ok-Line.field-0-is in
     record {
       standing = goes_on (g.S.Source.left c.args.src.now) (g.S.Source.left c.lines.src) (g.S.Source.left c.advance.new.src) (g.K.Sink.written c.args.out.now) (g.K.Sink.written c.lines.out) (g.K.Sink.written c.run_line.new.out) c.lines.number c.lines.lines c.advance.new.self c.lines.memory c.run_line.new.memory c.line.result.now c.line_text.result.now c.in-Some.line loop.standing (as_next c.in-Ok-Line.field-0 next.Line c.in-Ok-Line.field-0-is (script_left c.lines.lines (g.S.Source.left c.lines.src)) (script_left c.advance.new.self (g.S.Source.left c.advance.new.src)) c.lines.lines c.advance.new.self c.in-Ok-Line.ensures.next) c.line.ensures c.line_text.ensures c.in-Some.ensures.meaning c.in-Ok-run_line.ensures.ok;
+      stands = (after loop.stands.0 (acts_in c.in-Some.line), (c.in-Ok-run_line.ensures.ok loop.stands.0 loop.stands.1).0);
       number = omega (arith, loop.number, onward.0);
       limit = onward.1;
       source_faults = omega (arith, loop.source_faults, c.in-Ok-Line.ensures.faults);
