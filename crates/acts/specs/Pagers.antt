@@ -1,5 +1,5 @@
 -- The sessions of page lines over an engine: what each holds, and what an act does to them and to the engine.
-use Rattle.std.specs.Prelude.{◌≡◌, ℕ, ◌+◌, ◌≤◌, ◌<◌, ◌==◌, ◌⊎◌, if◌then◌else◌, Bool, true, false, List, [], ◌∷◌, ◌++◌, length, map, replicate, slice_index, Option, Some, None, IfSome, All}
+use Rattle.std.specs.Prelude.{◌≡◌, ℕ, ◌+◌, ◌≤◌, ◌<◌, ◌==◌, ◌⊎◌, if◌then◌else◌, Bool, true, false, List, [], ◌∷◌, ◌++◌, length, map, replicate, slice_index, Option, Some, None, IfSome, All, Contains}
 use Rattle.std.specs.List.{flat_map}
 use Rattle.page_spec.specs.PageMap.{PageMap, page_at}
 use Rattle.run_spec.specs.declared.pins.Pin.{Pin}
@@ -11,6 +11,7 @@ use Rattle.run_spec.specs.declared.lines.Act.{Act}
 use Rattle.run_spec.specs.declared.lines.Act.TheVariants as act
 use Rattle.run_spec.specs.declared.lines.Told.{Told}
 use Rattle.run_spec.specs.declared.lines.Told.TheVariants as reply
+use Rattle.run_spec.specs.declared.commits.Commit.{Commit}
 use Rattle.run_spec.specs.PageSet.{with_page}
 use Rattle.run_spec.specs.PageLines.{Statement, statement_text, read_text, write_text, image_of, with_image, Fills, AreImages}
 use Rattle.run_spec.specs.Logs.{one_more, told_logs}
@@ -237,3 +238,31 @@ Acts engine before act.Step told after = StepActs engine told × (after ≡ befo
 Acts engine before act.Copy told after = CopyActs engine told × (after ≡ before)
 Acts engine before act.Logs told after = (after ≡ before)
     × Found engine.alone engine.free engine.old (λ mid. (told ≡ reply.Logs (told_logs mid.logs)) × (engine.new ≡ mid))
+
+-- each of these pins is given back, one after another
+abbrev pub EndsAll : List Pin → Seen → Seen → Type 0
+EndsAll [] old new = new ≡ old
+EndsAll (pin ∷ pins) old new = (mid : Seen) × Ends old pin mid × EndsAll pins mid new
+
+-- the maps of the pins that stay through an act are as they were
+abbrev pub KeepsMaps : List Seat → (Pin → Option PageMap) → List Seat → (Pin → Option PageMap) → Type 0
+KeepsMaps before maps after maps_then =
+    (pin : Pin) → Contains (pins_of before) pin → Contains (pins_of after) pin → maps_then pin ≡ maps pin
+
+-- A run of page lines, from these seats on, where each pin that holds has such a map: the acts are answered one after another, and
+-- then the pins of what is still open are given back.
+abbrev pub Plays : Type 0 → Type 0 → Seen → (Pin → Option PageMap) → List Seat → List Act → List Told → Seen → Type 0
+Plays alone free old maps seats [] [] new = EndsAll (pins_of seats) old new
+Plays alone free old maps seats (act ∷ acts) (answer ∷ answers) new =
+    (mid : Seen) × (maps_then : Pin → Option PageMap) × (seats_then : List Seat)
+    × Acts (record { alone = alone; free = free; old = old; new = mid; map_before = maps; map_after = maps_then }) seats act answer seats_then
+    × KeepsMaps seats maps seats_then maps_then × Plays alone free mid maps_then seats_then acts answers new
+Plays alone free old maps seats [] (answer ∷ answers) new = ⊥
+Plays alone free old maps seats (act ∷ acts) [] new = ⊥
+
+-- the history, and which of it are the engine's own commits, grew at their ends alone
+pub record Grew (old new : Seen) : Type 0 where
+  pub more : List Commit
+  pub history : new.history ≡ old.history ++ more
+  pub more_own : List ℕ
+  pub own : new.own ≡ old.own ++ more_own

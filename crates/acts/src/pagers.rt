@@ -4,12 +4,12 @@ ghost use Rattle.page_spec.specs.PageMap.{PageMap};
 ghost use Rattle.run_spec.specs.declared.lines.Act.TheVariants as act;
 ghost use Rattle.run_spec.specs.declared.pins.Pin.{Pin};
 ghost use Rattle.run_spec.specs.Seen.{Found, OnlyFaults};
-ghost use Rattle.acts.specs.Pagers.{Acts, AreSound, IsInRange, pins_of};
+ghost use Rattle.acts.specs.Pagers.{Acts, AreSound, EndsAll, IsInRange, pins_of};
 ghost use Rattle.acts.specs.Turns.{act_of, Stays};
 
 use crate::Raw;
 use crate::seats::{Seat, State};
-use crate::turns::{Deed, begin_again, begin_out, copy, logs, step, turn};
+use crate::turns::{Deed, begin_again, begin_out, copy, end_one, logs, step, turn};
 use page_face::Engine;
 use run_spec::{Act, Told};
 use std::alloc::{AllocError, Global};
@@ -76,6 +76,26 @@ impl Pagers {
         ensures loans { E.loans engine.new ≡ E.loans engine.old }
     {
         act_on(self.alloc, &mut self.seats, &mut self.buf, engine, act)
+    }
+
+    /// Rolls back what is still open, session by session.
+    pub fn end<E: Engine<Raw>>(self, engine: &mut E)
+        requires live { (others : List Pin) × E.live engine.old (pins_of self ++ others) }
+        ensures ends { EndsAll (pins_of self) (E.seen engine.old) (E.seen engine.new) }
+        ensures stays { Stays E.seen E.live E.map_at E.begins E.free E.alone E.loans engine.old (pins_of self) engine.new [] }
+    {
+        end_all(self.seats.as_slice(), engine);
+    }
+}
+
+// Rolls back what is still open in these seats.
+fn end_all<E: Engine<Raw>>(seats: &[Seat], engine: &mut E)
+    requires live { (others : List Pin) × E.live engine.old (pins_of seats.now ++ others) }
+    ensures ends { EndsAll (pins_of seats.now) (E.seen engine.old) (E.seen engine.new) }
+    ensures stays { Stays E.seen E.live E.map_at E.begins E.free E.alone E.loans engine.old (pins_of seats.now) engine.new [] }
+{
+    for seat in seats {
+        end_one(&seat.state, engine);
     }
 }
 

@@ -8,7 +8,7 @@ ghost use Rattle.run_spec.specs.Seen.{Found, Fails, OnlyFaults, Checkpoints};
 ghost use Rattle.page_face.specs.Pins.{IsLive};
 ghost use Rattle.acts.specs.declared.seats.Seat.{Seat};
 ghost use Rattle.acts.specs.declared.seats.State.TheVariants as state;
-ghost use Rattle.acts.specs.Pagers.{Acts, ReadOpen, FetchOpen, CommitOpen, IsInRange, IsSoundState, IsSoundTransaction, new_transaction, pins_in, StepActs, CopyActs, IsLast};
+ghost use Rattle.acts.specs.Pagers.{Acts, EndsAll, ReadOpen, FetchOpen, CommitOpen, IsInRange, IsSoundState, IsSoundTransaction, new_transaction, pins_in, StepActs, CopyActs, IsLast};
 ghost use Rattle.acts.specs.Turns.{act_of, Moves, AllLive, Stays, IsRefused, HasBegun, IsBegun};
 ghost use Rattle.run_spec.specs.declared.pins.Pin.{Pin};
 ghost use Rattle.run_spec.specs.declared.lines.Told.TheVariants as reply;
@@ -427,5 +427,18 @@ fn copied_page(answer: Ckpt) -> Option<u32>
     match answer {
         Ckpt::Copied(page) => Some(page),
         Ckpt::Finished | Ckpt::Idle | Ckpt::Held(_) => None,
+    }
+}
+
+/// Gives back the pin of a session that is in a transaction.
+pub fn end_one<E: Engine<Raw>>(state: &State, engine: &mut E)
+    requires live { AllLive E.live engine.old (pins_in state.now) }
+    ensures ends { EndsAll (pins_in state.now) (E.seen engine.old) (E.seen engine.new) }
+    ensures stays { Stays E.seen E.live E.map_at E.begins E.free E.alone E.loans engine.old (pins_in state.now) engine.new [] }
+{
+    match state {
+        State::Out => {}
+        State::Open(transaction) => engine.end(transaction.pin),
+        State::Refused(pin) => engine.end(*pin),
     }
 }
