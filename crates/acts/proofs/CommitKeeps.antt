@@ -114,7 +114,7 @@ may_lay plain whole Plain reads n within first none =
     ]
 
 -- each commit began before itself, the last one too
-snaps_push : (k : ℕ) (commits : List Commit) (commit : Commit) → SnapsBefore k commits → commit.entry.snap ≤ k + length commits
+pub snaps_push : (k : ℕ) (commits : List Commit) (commit : Commit) → SnapsBefore k commits → commit.entry.snap ≤ k + length commits
   → SnapsBefore k (commits ++ commit ∷ [])
 snaps_push k [] commit before last = (omega arith, tt)
 snaps_push k (one ∷ commits) commit before last =

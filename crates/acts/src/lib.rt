@@ -7,6 +7,7 @@ mod lay;
 mod plain;
 mod raw;
 mod seats;
+mod shared;
 mod shared_page;
 
 pub use plain::Plain;
