@@ -2,14 +2,15 @@
 #![tactic(auto)]
 
 mod conflict;
-
 mod lay;
 mod plain;
 mod raw;
 mod seats;
-mod shared;
 mod shared_page;
 
 pub use plain::Plain;
 pub use raw::Raw;
 pub use run_spec::{Act, Told};
+
+#[cfg(test)]
+mod shared;

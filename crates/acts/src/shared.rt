@@ -7,7 +7,7 @@ ghost use Rattle.run_spec.specs.Seen.{Found, Accepts, Refuses, IsClear, commit_o
 ghost use Rattle.run_spec.specs.declared.pins.Pin.{Pin};
 ghost use Rattle.page_face.specs.Pins.{IsLive, KeepsPins};
 ghost use Rattle.page_face.specs.Prepared.{submitted, IsFit, IsGood};
-ghost use Rattle.acts.specs.Shared.{shared_seen, SharedLive, Extends};
+ghost use Rattle.acts.specs.Shared.{shared_seen, SharedLive, Extends, IsPrepared};
 
 use crate::Raw;
 use crate::conflict::find_conflict;
@@ -15,8 +15,8 @@ use crate::lay::written_pages;
 use crate::plain::push_reserved;
 use disk_face::{Bytes, Failed};
 use page_face::{
-    Ckpt, CommitFault, Engine, FetchFault, Lock, Logs, Means, Mode, PageImage, Pin, Prepared, ReadSet, Receipt,
-    Who,
+    Ckpt, CommitFault, Engine, FetchFault, Lock, Logs, Means, Mode, PageImage, Pin, Prepared,
+    ReadSet, Receipt, Who,
 };
 use run_spec::{Commit, Entry};
 use sqlite_items::Items;
@@ -36,7 +36,9 @@ struct Shared {
 
 impl Shared {
     // An engine with no commits, and so many that others will make.
-    fn new(alloc: Global, others: u64) -> Shared {
+    fn new(alloc: Global, others: u64) -> Shared
+        ensures { result.history.items ≡ [] }
+    {
         Shared {
             alloc,
             history: Vec::new(alloc),
@@ -70,9 +72,14 @@ impl Shared {
         requires freed { prepared.now.freed ≡ [] }
         ensures { MatchOption result (IsClear (shared_seen self.now.history.items self.now.own.items) (submitted prepared.now who))
             (λ fault. Refuses (shared_seen self.now.history.items self.now.own.items) (submitted prepared.now who) fault
-                (shared_seen self.now.history.items self.now.own.items)) }
+            (shared_seen self.now.history.items self.now.own.items)) }
     {
-        let found = find_conflict(prepared.mode, prepared.reads.pages(), prepared.snap, self.history.as_slice());
+        let found = find_conflict(
+            prepared.mode,
+            prepared.reads.pages(),
+            prepared.snap,
+            self.history.as_slice(),
+        );
         if let Some((page, commit)) = found {
             return Some(CommitFault::BusySnapshot { page, commit });
         }
@@ -84,7 +91,11 @@ impl Shared {
     }
 
     // Adds a commit that nothing bars. The error is want of memory; it leaves all as it was and hands the transaction back.
-    fn add(&mut self, prepared: Prepared<Raw>, who: Who) -> Result<Receipt, (CommitFault, Prepared<Raw>)>
+    fn add(
+        &mut self,
+        prepared: Prepared<Raw>,
+        who: Who,
+    ) -> Result<Receipt, (CommitFault, Prepared<Raw>)>
         ensures ok { IfOk result (λ receipt. (receipt ≡ Receipt.At (length self.old.history.items + 1))
             × (self.new.history.items ≡ self.old.history.items ++ commit_of (submitted prepared who) ∷ [])
             × (self.new.own.items ≡ self.old.own.items ++ (length self.old.history.items + 1) ∷ [])) }
@@ -105,7 +116,14 @@ impl Shared {
             snap: prepared.snap,
             statements: prepared.said,
         };
-        push_reserved(&mut self.history, Commit { entry, wrote, tail: prepared.tail });
+        push_reserved(
+            &mut self.history,
+            Commit {
+                entry,
+                wrote,
+                tail: prepared.tail,
+            },
+        );
         push_reserved(&mut self.own, number);
         Ok(Receipt::At(number))
     }
@@ -122,7 +140,11 @@ fn commit_of_others(alloc: Global, snap: u64) -> Result<Commit, AllocError>
         statements: Items::new(alloc),
     };
     let wrote = Items::from_slice(alloc, &[1, 2])?;
-    Ok(Commit { entry, wrote, tail: false })
+    Ok(Commit {
+        entry,
+        wrote,
+        tail: false,
+    })
 }
 
 impl Engine<Raw> for Shared {
@@ -193,10 +215,10 @@ impl Engine<Raw> for Shared {
             → IfSome (⟦<Shared as Engine<Raw>>⟧.map_at self.old pin.now) (λ snapshot. IsGood (⟦<Raw as Means>⟧.sound first) (⟦<Raw as Means>⟧.leads first) snapshot prepared) }
         ensures answer { MatchResult result
             (λ receipt. Found (⟦<Shared as Engine<Raw>>⟧.alone self.old) (⟦<Shared as Engine<Raw>>⟧.free self.old) (⟦<Shared as Engine<Raw>>⟧.seen self.old)
-                (λ mid. Accepts mid (submitted prepared who) receipt (⟦<Shared as Engine<Raw>>⟧.seen self.new)))
+            (λ mid. Accepts mid (submitted prepared who) receipt (⟦<Shared as Engine<Raw>>⟧.seen self.new)))
             (λ refusal. (refusal.1 ≡ prepared)
-                × Found (⟦<Shared as Engine<Raw>>⟧.alone self.old) (⟦<Shared as Engine<Raw>>⟧.free self.old) (⟦<Shared as Engine<Raw>>⟧.seen self.old)
-                    (λ mid. Refuses mid (submitted prepared who) refusal.0 (⟦<Shared as Engine<Raw>>⟧.seen self.new))) }
+            × Found (⟦<Shared as Engine<Raw>>⟧.alone self.old) (⟦<Shared as Engine<Raw>>⟧.free self.old) (⟦<Shared as Engine<Raw>>⟧.seen self.old)
+            (λ mid. Refuses mid (submitted prepared who) refusal.0 (⟦<Shared as Engine<Raw>>⟧.seen self.new))) }
         ensures pins { KeepsPins ⟦<Shared as Engine<Raw>>⟧.live ⟦<Shared as Engine<Raw>>⟧.map_at self.old self.new }
         ensures runs { (first : PageMap) → ⟦<Shared as Engine<Raw>>⟧.begins self.old first → ⟦<Shared as Engine<Raw>>⟧.begins self.new first }
         ensures may_begin { ⟦<Shared as Engine<Raw>>⟧.may_begin self.old → ⟦<Shared as Engine<Raw>>⟧.may_begin self.new }
@@ -232,4 +254,86 @@ impl Engine<Raw> for Shared {
     fn end(&mut self, pin: Pin) {
         let _ = pin;
     }
+}
+
+// A transaction of a snapshot that changed page 3 and read these pages.
+fn prepared_of(
+    alloc: Global,
+    pin: &Pin,
+    reads: ReadSet,
+    page_size: usize,
+    wrote: bool,
+) -> Result<Prepared<Raw>, AllocError>
+    ensures { IfOk result (λ prepared. IsPrepared pin.now reads page_size wrote prepared) }
+{
+    let bytes = Bytes::of(alloc, vec![in alloc; 7u8; page_size]?.as_slice())?;
+    let mut changed = Items::new(alloc);
+    changed.push(PageImage { page: 3, bytes })?;
+    Ok(Prepared {
+        mode: Mode::Concurrent,
+        snap: pin.n,
+        base: pin.size,
+        reads,
+        changed,
+        fresh: Items::new(alloc),
+        freed: Items::new(alloc),
+        tail: false,
+        wrote,
+        said: Items::new(alloc),
+        of: PhantomData,
+    })
+}
+
+// Begins, fetches page 2 and commits a write of page 3; answers the snapshot and what COMMIT was told.
+fn told<E: Engine<Raw>>(
+    engine: &mut E,
+    alloc: Global,
+    reads: ReadSet,
+    wrote: bool,
+) -> Result<(u64, Result<Receipt, CommitFault>), AllocError>
+    requires live { E.live engine.old [] }
+    requires may_begin { E.may_begin engine.old }
+    requires pages { 3 ≤ (E.seen engine.old).size }
+    requires maps { (e : _) (pin : Pin) → E.map_at e pin ≡ Option.None }
+{
+    let mut buf = vec![in alloc; 0u8; engine.page_size()]?;
+    let pin = engine.begin();
+    let _ = engine.fetch(&pin, 2, buf.as_mut_slice());
+    let prepared = prepared_of(alloc, &pin, reads, engine.page_size(), wrote)?;
+    let answer = match engine.commit(
+        &pin,
+        prepared,
+        Who {
+            session: 1,
+            ordinal: 1,
+        },
+    ) {
+        Ok(receipt) => Ok(receipt),
+        Err((fault, _)) => Err(fault),
+    };
+    Ok((pin.n, answer))
+}
+
+#[test]
+fn others_commit_between_two_calls(rt: HostRuntime) -> Result<(), Fail> {
+    let mut reads = ReadSet::new(rt.alloc());
+    reads.add(2)?;
+    let mut shared = Shared::new(rt.alloc(), 9);
+    let busy = CommitFault::BusySnapshot { page: 2, commit: 2 };
+    assert_eq!(rt; told(&mut shared, rt.alloc(), reads, true)?, (1, Err(busy)));
+
+    let mut shared = Shared::new(rt.alloc(), 9);
+    let blind = ReadSet::new(rt.alloc());
+    assert_eq!(rt;
+        told(&mut shared, rt.alloc(), blind, true)?,
+        (1, Ok(Receipt::At(4)))
+    );
+
+    let mut shared = Shared::new(rt.alloc(), 9);
+    let blind = ReadSet::new(rt.alloc());
+    assert_eq!(rt;
+        told(&mut shared, rt.alloc(), blind, false)?,
+        (1, Ok(Receipt::ReadOnly(1)))
+    );
+    Ok(())
 }

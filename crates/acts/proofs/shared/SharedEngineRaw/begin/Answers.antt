@@ -12,9 +12,12 @@ returns-clause-begun c =
     let seen = shared_seen mid.history.items mid.own.items in
     let n : c.len.result ≡ length mid.history.items = omega (arith, c.len.ensures, mid.history.ok.0) in
     found_extended c.args.self.now.history.items mid.history.items c.args.self.now.own.items mid.own.items _
-        c.others_commit.ensures.history c.others_commit.ensures.own
-        (seen, record { n = n; size = refl; lock = refl; generation = refl; mark = refl; after_is = refl },
-            later_same ⊥ (Unit {0}) seen, refl)
+    c.others_commit.ensures.history c.others_commit.ensures.own (
+      seen,
+      record { n = n; size = refl; lock = refl; generation = refl; mark = refl; after_is = refl },
+      later_same ⊥ (Unit {0}) seen,
+      refl,
+    )
 
 pub returns-clause-pins : goal.returns-clause-pins
 returns-clause-pins c =
@@ -23,5 +26,6 @@ returns-clause-pins c =
     record {
       added = λ before after live.
           all_with (λ (p : Pin). p.n ≤ length mid.history.items) before _ after (omega (arith, n))
-              (live_extended c.args.self.now.history.items mid.history.items c.others_commit.ensures.history _ live);
-      maps = λ other live. refl }
+          (live_extended c.args.self.now.history.items mid.history.items c.others_commit.ensures.history _ live);
+      maps = λ other live. refl;
+    }

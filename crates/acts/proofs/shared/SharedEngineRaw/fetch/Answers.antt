@@ -6,4 +6,4 @@ pub returns-clause-cause : goal.returns-clause-cause
 returns-clause-cause c =
     let mid = c.others_commit.new.self in
     found_extended c.args.self.now.history.items mid.history.items c.args.self.now.own.items mid.own.items _
-        c.others_commit.ensures.history c.others_commit.ensures.own ((let none : 0 ≤ 0 = omega arith in none), refl)
+    c.others_commit.ensures.history c.others_commit.ensures.own ((let none : 0 ≤ 0 = omega arith in none), refl)
