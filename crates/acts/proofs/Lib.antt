@@ -13,3 +13,4 @@ pub mod Copying
 pub mod Growth
 pub mod Endings
 pub mod Runs
+pub mod SharedMoves

@@ -86,7 +86,9 @@ new_transaction pin = record { pin = pin; reads = []; changed = []; said = []; w
 -- a transaction that has read a page of its snapshot
 abbrev pub after_fetch : Transaction → ℕ → Transaction
 after_fetch transaction page = record transaction {
-    reads = with_page transaction.reads page; said = transaction.said ++ read_text page ∷ [] }
+  reads = with_page transaction.reads page;
+  said = transaction.said ++ read_text page ∷ [];
+}
 
 -- a transaction that has read a page that it wrote itself
 abbrev pub after_own : Transaction → ℕ → Transaction
@@ -95,20 +97,22 @@ after_own transaction page = record transaction { said = transaction.said ++ rea
 -- a transaction that has written a page
 abbrev pub after_write : ℕ → Transaction → ℕ → ℕ → Transaction
 after_write page_size transaction page byte = record transaction {
-    changed = with_image transaction.changed page (replicate page_size byte);
-    said = transaction.said ++ write_text page byte ∷ [];
-    wrote = true }
+  changed = with_image transaction.changed page (replicate page_size byte);
+  said = transaction.said ++ write_text page byte ∷ [];
+  wrote = true;
+}
 
 -- what the session's transaction hands in to be committed
 abbrev pub submitted_of : List Seat → ℕ → Transaction → Submitted
 submitted_of seats session transaction = record {
-    snap = transaction.pin.n;
-    reads = transaction.reads;
-    change = record { mode = Concurrent; base = transaction.pin.size; changed = transaction.changed; fresh = []; freed = []; tail = false };
-    said = transaction.said;
-    wrote = transaction.wrote;
-    session = session;
-    ordinal = begun_of seats session }
+  snap = transaction.pin.n;
+  reads = transaction.reads;
+  change = record { mode = Concurrent; base = transaction.pin.size; changed = transaction.changed; fresh = []; freed = []; tail = false };
+  said = transaction.said;
+  wrote = transaction.wrote;
+  session = session;
+  ordinal = begun_of seats session;
+}
 
 -- What an engine is before and after an act: whether it is alone and a transaction may always begin, what it tells, and the map of a pin.
 pub record Between : Type 1 where
@@ -127,9 +131,12 @@ Same engine before after answer told = (told ≡ answer) × (after ≡ before) �
 abbrev pub BeginActs : Between → ℕ → List Seat → List Seat → Told → State → Type 0
 BeginActs engine session before after told Out = (told ≡ reply.Ok) × ((pin : Pin)
     × Found engine.alone engine.free engine.old (λ mid. (begun : Seen) × Begins mid pin begun × Later engine.alone engine.free begun engine.new
-        × (engine.map_after pin ≡ mid.newest))
+    × (engine.map_after pin ≡ mid.newest))
     × (after ≡ with_seat before (record {
-        session = session; begun = one_more (begun_of before session); state = Open (new_transaction pin) })))
+      session = session;
+      begun = one_more (begun_of before session);
+      state = Open (new_transaction pin);
+    })))
 BeginActs engine session before after told (Open transaction) = Same engine before after reply.InTransaction told
 BeginActs engine session before after told (Refused pin) = Same engine before after reply.MustRollBack told
 
@@ -138,9 +145,9 @@ abbrev pub FetchOpen : Between → ℕ → ℕ → List Seat → List Seat → T
 FetchOpen engine session page before after told transaction =
     ((told ≡ reply.Disk) × (after ≡ before) × Found engine.alone engine.free engine.old (λ mid. Fails mid engine.new))
     ⊎ ((byte : ℕ) × (told ≡ reply.Byte byte)
-        × IfSome (engine.map_before transaction.pin) (λ pages. byte ≡ slice_index (page_at pages page) 0)
-        × (after ≡ with_state before session (Open (after_fetch transaction page)))
-        × Found engine.alone engine.free engine.old (λ mid. OnlyFaults mid engine.new))
+    × IfSome (engine.map_before transaction.pin) (λ pages. byte ≡ slice_index (page_at pages page) 0)
+    × (after ≡ with_state before session (Open (after_fetch transaction page)))
+    × Found engine.alone engine.free engine.old (λ mid. OnlyFaults mid engine.new))
 
 -- READ of a page that the transaction wrote itself, or of its snapshot
 abbrev pub ReadOpen : Between → ℕ → ℕ → List Seat → List Seat → Told → Transaction → Option (List ℕ) → Type 0
@@ -166,11 +173,11 @@ WriteActs engine session page byte before after told (Refused pin) = Same engine
 abbrev pub CommitOpen : Between → ℕ → List Seat → List Seat → Transaction → Told → Type 0
 CommitOpen engine session before after transaction (reply.Done receipt) =
     Found engine.alone engine.free engine.old (λ mid. (done : Seen) × Accepts mid (submitted_of before session transaction) receipt done
-        × Ends done transaction.pin engine.new)
+    × Ends done transaction.pin engine.new)
     × (after ≡ with_state before session Out)
 CommitOpen engine session before after transaction (reply.Busy page number) =
     Found engine.alone engine.free engine.old
-        (λ mid. Refuses mid (submitted_of before session transaction) (fault.BusySnapshot page number) engine.new)
+    (λ mid. Refuses mid (submitted_of before session transaction) (fault.BusySnapshot page number) engine.new)
     × (after ≡ with_state before session (Refused transaction.pin))
 CommitOpen engine session before after transaction reply.Disk =
     Found engine.alone engine.free engine.old (λ mid. Refuses mid (submitted_of before session transaction) fault.Disk engine.new)
@@ -180,7 +187,7 @@ CommitOpen engine session before after transaction (reply.Stopped log at) =
     × (after ≡ before)
 CommitOpen engine session before after transaction (reply.Size pages) =
     ((frames : ℕ) × Found engine.alone engine.free engine.old
-        (λ mid. Refuses mid (submitted_of before session transaction) (fault.SizeLimit pages frames) engine.new))
+    (λ mid. Refuses mid (submitted_of before session transaction) (fault.SizeLimit pages frames) engine.new))
     × (after ≡ before)
 CommitOpen engine session before after transaction reply.Ok = ⊥
 CommitOpen engine session before after transaction (reply.Byte byte) = ⊥

@@ -19,3 +19,6 @@ pub use plain::Plain;
 pub use playing::play;
 pub use raw::Raw;
 pub use run_spec::{Act, Told};
+
+#[cfg(test)]
+mod shared;
