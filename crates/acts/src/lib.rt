@@ -9,6 +9,8 @@ mod plain;
 mod raw;
 mod seats;
 mod shared_page;
+#[cfg(test)]
+mod tests;
 mod transaction;
 mod turns;
 
