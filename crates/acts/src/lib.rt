@@ -10,6 +10,8 @@ mod playing;
 mod raw;
 mod seats;
 mod shared_page;
+#[cfg(test)]
+mod tests;
 mod transaction;
 mod turns;
 
