@@ -5,11 +5,11 @@ use crate::fault::counted;
 use crate::file;
 use crate::file::RealFile;
 use disk_face::{Disk, Failed, File};
-use std::alloc::{AllocError, Global};
-use std::io;
+use std::alloc::Global;
 use std::io::ErrorKind;
 use std::marker::Model;
 use std::rt::Files;
+use std::{io, str};
 
 /// A database's three files, as the operating system has them. A call fails where one of the operating system's fails, or
 /// where there is no memory.
@@ -27,7 +27,7 @@ struct Named<F> {
     main: RealFile<F>,
     log1: RealFile<F>,
     log2: RealFile<F>,
-    journal: Vec<u8>,
+    journal: String,
 }
 
 impl<'a, R: Files> Model for FileDisk<'a, R> {
@@ -72,7 +72,7 @@ impl<'a, R: Files> Disk for FileDisk<'a, R> {
 
     fn journal(&mut self) -> Result<bool, Failed> {
         let answer = match &self.named {
-            Some(named) => file::is_hot(self.rt, self.alloc, &named.journal),
+            Some(named) => file::is_hot(self.rt, &named.journal),
             None => Err(not_named()),
         };
         counted(&mut self.faults, answer)
@@ -128,16 +128,13 @@ fn not_named() -> io::Error {
 
 // Opens the files that are there, and makes none.
 fn name<R: Files>(rt: &R, alloc: Global, path: &[u8]) -> io::Result<Named<R::File>> {
+    let Ok(path) = str::from_utf8(path) else {
+        return Err(io::Error::from(ErrorKind::InvalidInput));
+    };
     Ok(Named {
-        main: file::open(rt, joined(alloc, path, b"")?)?,
-        log1: file::open(rt, joined(alloc, path, b"-wal")?)?,
-        log2: file::open(rt, joined(alloc, path, b"-wal2")?)?,
-        journal: joined(alloc, path, b"-journal")?,
+        main: file::open(rt, format!(in alloc; "{path}")?)?,
+        log1: file::open(rt, format!(in alloc; "{path}-wal")?)?,
+        log2: file::open(rt, format!(in alloc; "{path}-wal2")?)?,
+        journal: format!(in alloc; "{path}-journal")?,
     })
-}
-
-fn joined(alloc: Global, path: &[u8], ending: &[u8]) -> Result<Vec<u8>, AllocError> {
-    let mut bytes = path.to_vec(alloc)?;
-    bytes.extend_from_slice(ending)?;
-    Ok(bytes)
 }

@@ -1,16 +1,14 @@
 // One of the three files, as the operating system has it.
-use crate::open;
-use crate::open::How;
-use std::alloc::Global;
-use std::fs::OpenFile;
-use std::io;
+use std::fs::{OpenFile, OpenOptions};
 use std::io::{ErrorKind, Read, Seek, SeekFrom, Write};
+use std::path::Path;
 use std::rt::Files;
+use std::{fs, io};
 
 /// One of the three files.
 #[derive(Drop)]
 pub(crate) struct RealFile<F> {
-    path: Vec<u8>,
+    path: String,
     slot: Slot<F>,
 }
 
@@ -26,12 +24,12 @@ enum Slot<F> {
 }
 
 /// Opens the file that is there, for reading alone if it can't be written, and makes none.
-pub(crate) fn open<R: Files>(rt: &R, path: Vec<u8>) -> io::Result<RealFile<R::File>> {
-    let alloc = *path.allocator();
-    let slot = match open::open(rt, alloc, How::Update, &path) {
+pub(crate) fn open<R: Files>(rt: &R, path: String) -> io::Result<RealFile<R::File>> {
+    let opened = OpenOptions::new().read(true).write(true).open(rt, &path);
+    let slot = match opened {
         Ok(file) => Slot::Open { file, made: false },
         Err(error) if error.kind() == ErrorKind::NotFound => Slot::Missing,
-        Err(_) => Slot::ReadOnly(open::open(rt, alloc, How::Read, &path)?),
+        Err(_) => Slot::ReadOnly(fs::open(rt, &path)?),
     };
     Ok(RealFile { path, slot })
 }
@@ -64,7 +62,7 @@ impl<F: Read + Write + Seek + OpenFile + Drop> RealFile<F> {
         piece: &[u8],
     ) -> io::Result<()> {
         if let Slot::Missing = &self.slot {
-            let file = open::open(rt, *self.path.allocator(), How::Make, &self.path)?;
+            let file = make(rt, &self.path)?;
             self.slot = Slot::Open { file, made: true };
         }
         match &mut self.slot {
@@ -81,7 +79,7 @@ impl<F: Read + Write + Seek + OpenFile + Drop> RealFile<F> {
         if let Slot::Open { file, made } = &mut self.slot {
             file.sync_all()?;
             if *made {
-                sync_folder(rt, *self.path.allocator(), &self.path)?;
+                sync_folder(rt, &self.path)?;
                 *made = false;
             }
         }
@@ -94,22 +92,22 @@ fn read_from<F: Read + Seek>(file: &mut F, at: u64, buf: &mut [u8]) -> io::Resul
     file.read_exact(buf)
 }
 
-fn sync_folder<R: Files>(rt: &R, alloc: Global, path: &[u8]) -> io::Result<()> {
-    open::open(rt, alloc, How::Read, folder_of(path))?.sync_all()
+fn make<R: Files>(rt: &R, path: &str) -> io::Result<R::File> {
+    let mut how = OpenOptions::new();
+    how.read(true).write(true).create(true).open(rt, path)
 }
 
-// The folder that a path names a file of.
-fn folder_of(path: &[u8]) -> &[u8] {
-    match path.iter().rposition(|byte| *byte == b'/') {
-        Some(0) => b"/",
-        Some(end) => &path[..end],
-        None => b".",
-    }
+fn sync_folder<R: Files>(rt: &R, path: &str) -> io::Result<()> {
+    let folder = match Path::new(path).parent() {
+        Some(folder) if !folder.as_str().is_empty() => fs::open(rt, folder)?,
+        _ => fs::open(rt, ".")?,
+    };
+    folder.sync_all()
 }
 
 /// Says whether there is such a file whose first byte isn't 0.
-pub(crate) fn is_hot<R: Files>(rt: &R, alloc: Global, path: &[u8]) -> io::Result<bool> {
-    match open::open(rt, alloc, How::Read, path) {
+pub(crate) fn is_hot<R: Files>(rt: &R, path: &str) -> io::Result<bool> {
+    match fs::open(rt, path) {
         Ok(mut file) => {
             let mut first = [0];
             let count = file.read(&mut first)?;

@@ -8,7 +8,7 @@
 //!   of power, and until then nothing is touched but the ranges that were written.
 //! - `read_at` fills the whole buffer with what was written last, or fails. A missing file is empty, and is made by the first
 //!   write to it. `attach` opens the files that are there once, and makes none. Nobody else writes the files.
-//! - A name may have any bytes. Where they are no text, `/proc/self/fd` is there, and names the open descriptors.
+//! - A name is UTF-8: std's paths are text. One that isn't fails when it is attached.
 //! - A file that can't be opened for writing fails when it is written, and not before.
 //! - Standard input gives its bytes in order, and none twice. Standard output takes them so.
 //! - The number that the salts start from is one that nobody can guess.
@@ -17,7 +17,6 @@
 mod disk;
 mod fault;
 mod file;
-mod open;
 mod salts;
 mod sink;
 mod source;

@@ -43,21 +43,6 @@ fn real_files_keep_what_is_written(rt: HostRuntime) -> Result<(), Fail> {
 }
 
 #[test]
-fn a_name_may_have_any_bytes(rt: HostRuntime) -> Result<(), Fail> {
-    let path = b"a_name_may_have_any_bytes\xff.db";
-    let mut disk = FileDisk::new(&rt, rt.alloc());
-    disk.attach(path).or(Err("attach"))?;
-    disk.write_at(File::Main, 0, b"abc").or(Err("write"))?;
-    disk.sync(File::Main).or(Err("sync"))?;
-    let mut other = FileDisk::new(&rt, rt.alloc());
-    other.attach(path).or(Err("attach anew"))?;
-    assert_eq!(rt; other.size(File::Main), Ok(3));
-    assert_eq!(rt; other.journal(), Ok(false));
-    os::unlink(path);
-    Ok(())
-}
-
-#[test]
 fn standard_input_and_output_take_nothing(rt: HostRuntime) {
     assert_eq!(rt; StdSource::new(&rt).take(&mut []), Ok(0));
     assert_eq!(rt; StdSink::new(&rt).put(&[]), Ok(0));

@@ -1,1 +1,5 @@
+pub mod Bytes
+pub mod Header
 pub mod PageMap
+pub mod Varint
+pub mod View

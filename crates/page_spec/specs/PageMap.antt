@@ -1,6 +1,7 @@
 -- A page map: the pages of a database, numbered from 1, each a list of bytes of one page size.
 use Rattle.std.specs.Prelude.{◌≡◌, ℕ, ◌≤◌, ◌==◌, if◌then◌else◌, List, [], ◌∷◌, length, drop, slice_index, Contains}
 use Rattle.std.specs.List.{slice_index_or}
+pub use Rattle.page_spec.specs.Header.{page_sizes}
 
 -- the pages of a database, the first of them page 1
 abbrev pub PageMap : Type 0

@@ -1,22 +1,10 @@
 -- The history of a store: its commits in order, and which of them bars a later one.
 use Rattle.std.specs.Prelude.{◌≡◌, ℕ, ◌+◌, ◌<◌, ◌≤◌, Bool, true, false, ◌==◌, ◌&&◌, ◌||◌, not, List, [], ◌∷◌, ◌++◌, length, drop, Contains, Option, Some, None, if◌then◌else◌, nat_lt}
 use Rattle.std.specs.List.{list_any, flat_map}
+pub use Rattle.run_spec.specs.declared.commits.Entry.{Entry}
+pub use Rattle.run_spec.specs.declared.commits.Commit.{Commit}
 use Rattle.run_spec.specs.declared.commits.Mode.{Mode}
 use Rattle.run_spec.specs.declared.commits.Mode.TheVariants.{Plain, Concurrent}
-
--- An entry of a history: the session, which of its transactions it was, the snapshot that it began at, and the texts of its
--- accepted statements.
-pub record Entry : Type 0 where
-  pub session : ℕ
-  pub ordinal : ℕ
-  pub snap : ℕ
-  pub statements : List (List ℕ)
-
--- A commit: its entry, the pages that it wrote, and whether it changed page 1 from byte 100 on. Commits are numbered from 1.
-pub record Commit : Type 0 where
-  pub entry : Entry
-  pub wrote : List ℕ
-  pub tail : Bool
 
 -- Whether a commit counts as having written a page, for a transaction of this mode. Every commit writes page 1, for its header
 -- fields; to a concurrent transaction that counts only where the commit changed page 1 from byte 100 on.

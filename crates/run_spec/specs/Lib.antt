@@ -1,3 +1,11 @@
+pub mod PageSet
 pub mod Change
 pub mod History
 pub mod Logs
+pub mod Seen
+pub mod Good
+pub mod PageLines
+pub mod PageLineLaws
+pub mod World
+pub mod Reply
+pub mod Serial

@@ -1,5 +1,5 @@
 -- The two logs as a state: which is current, what frames each has, whether the other is in the database, and who reads what.
-use Rattle.std.specs.Prelude.{◌≡◌, ◌≢◌, ℕ, ◌+◌, ◌-◌, ◌^◌, ◌<◌, ◌≤◌, Bool, true, false, ◌==◌, ◌&&◌, if◌then◌else◌, nat_lt, List, [], ◌∷◌, ◌++◌, length, Contains, Option, Some, None}
+use Rattle.std.specs.Prelude.{◌≡◌, ℕ, ◌+◌, ◌-◌, ◌^◌, ◌<◌, ◌≤◌, Bool, true, false, ◌==◌, ◌&&◌, if◌then◌else◌, nat_lt, List, [], ◌++◌, length, Contains, Option, Some, None}
 use Rattle.run_spec.specs.declared.pins.Lock.{Lock}
 use Rattle.run_spec.specs.declared.pins.Lock.TheVariants.{Part1, Part1Full2, Part2, Part2Full1}
 use Rattle.run_spec.specs.declared.pins.Readers.{Readers}
@@ -62,12 +62,13 @@ may_switch logs = logs.done && (full_holders logs == 0) && (holders logs == 0)
 -- the other log is current from now on, with no frames, and the one that was current waits to be copied
 abbrev pub switched : LogState → LogState
 switched logs = record logs {
-    current = 3 - logs.current;
-    generation = logs.generation + 1;
-    frames = [];
-    other_frames = logs.frames;
-    done = false;
-    copied = 0 }
+  current = 3 - logs.current;
+  generation = logs.generation + 1;
+  frames = [];
+  other_frames = logs.frames;
+  done = false;
+  copied = 0;
+}
 
 -- the logs that a commit's frames go to
 abbrev pub before_frames : LogState → LogState

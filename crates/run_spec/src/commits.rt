@@ -1,5 +1,6 @@
 // What a transaction hands over, and what it is answered.
-use disk_face::Bytes;
+use disk_face::{Bytes, Txt};
+use sqlite_items::Items;
 use thiserror::Error;
 
 /// How a transaction was begun.
@@ -100,4 +101,28 @@ pub enum CommitFault {
         /// The page that was read.
         page: u32,
     },
+}
+
+/// One entry of a history: a transaction that was committed.
+#[derive(Debug, Drop)]
+pub struct Entry {
+    /// The session's number.
+    pub session: u32,
+    /// Which transaction of the session it was, from 1.
+    pub ordinal: u64,
+    /// The number of the snapshot that it began at.
+    pub snap: u64,
+    /// The texts of its accepted statements, in order.
+    pub statements: Items<Txt>,
+}
+
+/// One commit of a history. Commits are numbered from 1.
+#[derive(Debug, Drop)]
+pub struct Commit {
+    /// Whose it was, and what was said.
+    pub entry: Entry,
+    /// The pages that it wrote.
+    pub wrote: Items<u32>,
+    /// Whether it changed page 1 from byte 100 on.
+    pub tail: bool,
 }

@@ -8,6 +8,6 @@ mod commits;
 mod lines;
 mod pins;
 
-pub use commits::{CommitFault, FetchFault, Mode, PageImage, Receipt, Who};
+pub use commits::{Commit, CommitFault, Entry, FetchFault, Mode, PageImage, Receipt, Who};
 pub use lines::{Act, Told};
 pub use pins::{Ckpt, Lock, Logs, Pin, Readers};

@@ -1,0 +1,12 @@
+pub mod Moments
+pub mod PlainPins
+pub mod PlainCommits
+pub mod CommitKeeps
+pub mod SeatLaws
+pub mod Telling
+pub mod Standing
+pub mod Memory
+pub mod Places
+pub mod Outcomes
+pub mod Seatings
+pub mod Copying

@@ -1,0 +1,162 @@
+-- What an engine tells after its own calls, where it is alone and keeps no logs.
+use Rattle.std.proofs.Common.{◌≡◌, ◌∙◌, ℕ, ◌+◌, ◌*◌, ◌^◌, ◌<◌, ◌≤◌, List, [], ◌∷◌, ◌++◌, length, map, refl, sym, ap, subst, inl, inr, arith, rules, get_or, length-append, eqb, eqb-true, true}
+use Rattle.std.specs.Prelude.{Option, Some, None, Contains, All}
+use Rattle.std.specs.Option.{option_map}
+use Rattle.std.specs.List.{IsDistinct, list_any}
+use Rattle.std.proofs.lemmas.Bool.{ne_eqb}
+use Rattle.std.proofs.lemmas.Grind.{get_or_default_zero}
+use Rattle.std.proofs.lemmas.Map.Keys.{IsDistinct-from_apart}
+use Rattle.std.proofs.lemmas.Map.Steps.{length-le_from_distinct_below}
+use Rattle.std.proofs.lemmas.Map.Views.{Contains-from_any}
+use Rattle.std.proofs.lemmas.List.{get_or_append_left, length-map, get_or-map}
+use Rattle.std.proofs.lemmas.List.Elements.{All-contains, All-from_recursion}
+use Rattle.std.proofs.Math.Seq.{get_or-append_seam}
+use Rattle.disk_face.specs.Faults.{Rose}
+use Rattle.page_spec.specs.PageMap.{PageMap, page_size_of, page_sizes}
+use Rattle.run_spec.specs.declared.pins.Pin.{Pin}
+use Rattle.run_spec.specs.declared.commits.PageImage.{PageImage}
+use Rattle.run_spec.specs.Change.{Change, laid}
+use Rattle.run_spec.specs.declared.commits.Commit.{Commit}
+use Rattle.run_spec.specs.Logs.{LogState}
+use Rattle.run_spec.specs.PageLines.{AreImages, IsPageStore}
+use Rattle.run_spec.specs.Seen.{Seen, IsOver, pages_after, frames_after}
+use Rattle.run_spec.proofs.Laying.{IsWhole, laid-page_size}
+use Rattle.run_spec.proofs.GoodLines.{legal_size, laid-store}
+use Rattle.acts.specs.InMemory.{TellsOf, PinStands}
+
+-- where nothing but the logs and the faults changed, and of these there are none, all stays
+pub tells_as : (old new : Seen) (maps : List PageMap) (history : List Commit) (logs : Option LogState) (faults : ℕ)
+    → new ≡ record old { logs = logs; faults = faults } → logs ≡ None → faults ≡ 0 → TellsOf old maps history → TellsOf new maps history
+tells_as old new maps history logs faults is none quiet tells = record {
+  history_is = ap (λ (s : Seen). s.history) is ∙ tells.history_is;
+  newest = ap (λ (s : Seen). s.newest) is ∙ tells.newest;
+  store = tells.store;
+  size = ap (λ (s : Seen). s.size) is ∙ tells.size;
+  page_size = ap (λ (s : Seen). s.page_size) is ∙ tells.page_size;
+  running = ap (λ (s : Seen). s.stopped) is ∙ tells.running;
+  quiet = ap (λ (s : Seen). s.faults) is ∙ quiet;
+  logs = ap (λ (s : Seen). s.logs) is ∙ none;
+  count = tells.count;
+}
+
+-- a count of no faults didn't rise
+pub never_rose : (before after : ℕ) → before ≡ 0 → after ≡ 0 → Rose before after → ⊥
+never_rose before after old new rose = elim (rose.counted) [ inl more ↦ absurd (omega arith) | inr last ↦ absurd (omega arith) ]
+
+-- a list of maps and one with the same maps at its front
+pub record Extends (maps after : List PageMap) : Type 0 where
+  pub longer : length maps ≤ length after
+  pub same : (n : ℕ) → n < length maps → get_or after n [] ≡ get_or maps n []
+
+pub extends_same : (maps : List PageMap) → Extends maps maps
+extends_same maps = record { longer = omega arith; same = λ n within. refl }
+
+pub extends_push : (maps : List PageMap) (pages : PageMap) → Extends maps (maps ++ pages ∷ [])
+extends_push maps pages = record {
+  longer = omega (arith, length-append maps (pages ∷ []));
+  same = λ n within. get_or_append_left maps (pages ∷ []) [] n within;
+}
+
+-- a pin that stands does so with more maps
+pub pin_keeps : (map_before map_after : Pin → Option PageMap) (maps after : List PageMap) (pin : Pin) → Extends maps after
+    → map_after pin ≡ map_before pin → PinStands map_before maps pin → PinStands map_after after pin
+pin_keeps map_before map_after maps after pin extends same stands = record {
+  n = omega (arith, extends.longer, stands.n);
+  size = stands.size ∙ ap length (sym (extends.same pin.n stands.n));
+  map = same ∙ stands.map ∙ ap Some (sym (extends.same pin.n stands.n));
+}
+
+-- the last of the maps once there is one commit more
+newest_pushed : (maps : List PageMap) (pages : PageMap) (history : List Commit) (commit : Commit) → length maps ≡ length history + 1
+    → get_or (maps ++ pages ∷ []) (length (history ++ commit ∷ [])) [] ≡ pages
+newest_pushed maps pages history commit count =
+    let at : length (history ++ commit ∷ []) ≡ length maps = omega (arith, length-append history (commit ∷ [])) in
+    ap (λ (k : ℕ). get_or (maps ++ pages ∷ []) k []) at ∙ get_or-append_seam maps pages [] []
+
+-- the change of a transaction of page lines is one of whole pages of the store
+lines_whole : (change : Change) (s : ℕ) → AreImages s change.changed → change.fresh ≡ [] → IsWhole 16 s change
+lines_whole change s images none = record {
+  in_range = λ k d within. (let one = images.in_range k d within in (omega arith, one.1));
+  whole = images.whole;
+  fresh = none;
+}
+
+-- laying such a change keeps the page size of a page store
+laid_size : (pages : PageMap) (change : Change) → change.fresh ≡ [] → AreImages (page_size_of pages) change.changed → IsPageStore pages
+    → page_size_of (laid pages change) ≡ page_size_of pages
+laid_size pages change none images store =
+    let size : 100 ≤ page_size_of pages = omega (arith, legal_size (page_size_of pages) store.size) in
+    let count : length pages ≡ 16 = store.count in
+    laid-page_size pages change 16 (page_size_of pages) size (lines_whole change (page_size_of pages) images none)
+    (omega arith) (omega arith) store.each
+
+-- once a change is committed, the engine tells of one map and one commit more
+pub tells_more : (old new : Seen) (maps : List PageMap) (history : List Commit) (change : Change) (commit : Commit)
+    → change.fresh ≡ [] → AreImages old.page_size change.changed
+    → new.history ≡ old.history ++ commit ∷ [] → new.newest ≡ option_map (λ (pages : PageMap). laid pages change) old.newest
+    → new.size ≡ pages_after old change → new.page_size ≡ old.page_size → new.stopped ≡ old.stopped → new.faults ≡ 0 → new.logs ≡ None
+    → TellsOf old maps history
+    → TellsOf new (maps ++ laid (get_or maps (length history) []) change ∷ []) (history ++ commit ∷ [])
+tells_more old new maps history change commit fresh images is_history is_newest is_size is_page_size is_stopped quiet logs tells =
+    let newest = get_or maps (length history) [] in
+    let next = laid newest change in
+    let there : get_or (maps ++ next ∷ []) (length (history ++ commit ∷ [])) [] ≡ next =
+    newest_pushed maps next history commit tells.count in
+    let whole : AreImages (page_size_of newest) change.changed = subst (λ (s : ℕ). AreImages s change.changed) tells.page_size images in
+    let size : page_size_of next ≡ page_size_of newest = laid_size newest change fresh whole tells.store in
+    record {
+      history_is = is_history ∙ ap (λ (commits : List Commit). commits ++ commit ∷ []) tells.history_is;
+      newest = is_newest ∙ ap (option_map (λ (pages : PageMap). laid pages change)) tells.newest ∙ ap Some (sym there);
+      store = subst IsPageStore (sym there) (laid-store newest change fresh whole tells.store);
+      size = omega (arith, is_size, tells.size, ap length fresh);
+      page_size = is_page_size ∙ tells.page_size ∙ sym size ∙ ap page_size_of (sym there);
+      running = is_stopped ∙ tells.running;
+      quiet = quiet;
+      logs = logs;
+      count = omega (arith, tells.count, length-append maps (next ∷ []), length-append history (commit ∷ []));
+    }
+
+-- each legal page size is at most 65536 bytes
+most_size : (s : ℕ) → Contains page_sizes s → s ≤ 65536
+most_size s there =
+    All-contains (λ (size : ℕ). size ≤ 65536) page_sizes s (All-from_recursion (λ (size : ℕ). size ≤ 65536) page_sizes (search rules)) there
+
+-- images of page lines are few
+few_images : (s : ℕ) (images : List PageImage) → AreImages s images → length images ≤ 17
+few_images s images are =
+    let pages = map (λ (image : PageImage). image.page) images in
+    let count : length pages ≡ length images = length-map images (λ (image : PageImage). image.page) in
+    let distinct : IsDistinct eqb pages =
+    IsDistinct-from_apart eqb pages (λ i j d below within.
+    let one : get_or pages i d ≡ get_or pages i 0 = get_or_default_zero pages i d (omega arith) in
+    let other : get_or pages j d ≡ get_or pages j 0 = get_or_default_zero pages j d within in
+    ne_eqb (get_or pages i d) (get_or pages j d) (λ e. are.different i j below within (sym one ∙ e ∙ other))) in
+    let low : (q : ℕ) → list_any (eqb q) pages ≡ true → q < 17 = λ q found.
+    below_all images are.in_range q (Contains-from_any (λ x y e. eqb-true x y e) q pages found) in
+    omega (arith, count, length-le_from_distinct_below pages 17 distinct low)
+  where
+    below_all : (images : List PageImage) → All (λ (image : PageImage). (2 ≤ image.page) × (image.page ≤ 16)) images → (q : ℕ)
+        → Contains (map (λ (image : PageImage). image.page) images) q → q < 17
+    below_all images in_range q there =
+        let within : there.0 < length images = omega (arith, there.1, length-map images (λ (image : PageImage). image.page)) in
+        let d : PageImage = record { page = 0; bytes = [] } in
+        let one : (get_or images there.0 d).page ≤ 16 = (in_range there.0 d within).1 in
+        let is : get_or (map (λ (image : PageImage). image.page) images) there.0 q ≡ (get_or images there.0 d).page =
+        get_or-map (λ (image : PageImage). image.page) images there.0 d q within in
+        let at : q ≡ (get_or images there.0 d).page = sym there.2 ∙ is in
+        omega arith
+
+-- a change of page lines passes no limit
+pub not_over : (seen : Seen) (maps : List PageMap) (history : List Commit) (change : Change) → TellsOf seen maps history
+    → change.fresh ≡ [] → change.freed ≡ [] → AreImages seen.page_size change.changed → IsOver seen change → ⊥
+not_over seen maps history change tells fresh freed images over = elim over [
+  | inl pages ↦
+      (let count : pages_after seen change ≡ 16 = omega (arith, tells.size, ap length fresh) in
+      let many : 2 ^ 30 < 16 * seen.page_size = subst (λ (n : ℕ). 2 ^ 30 < n * seen.page_size) count pages in
+      let most : seen.page_size ≤ 65536 =
+      subst (λ (s : ℕ). s ≤ 65536) (sym tells.page_size) (most_size (page_size_of (get_or maps (length history) [])) tells.store.size) in
+      omega arith)
+  | inr frames ↦
+      (let none : frames_after seen change ≡ 0 + length change.changed + length change.fresh + length change.freed + 2 = rw tells.logs refl in
+      omega (arith, none, ap length fresh, ap length freed, few_images seen.page_size change.changed images))
+]

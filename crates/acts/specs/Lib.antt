@@ -1,0 +1,5 @@
+pub mod Plain
+pub mod PlainLaws
+pub mod Pagers
+pub mod InMemory
+pub mod Turns

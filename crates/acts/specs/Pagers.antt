@@ -1,0 +1,239 @@
+-- The sessions of page lines over an engine: what each holds, and what an act does to them and to the engine.
+use Rattle.std.specs.Prelude.{◌≡◌, ℕ, ◌+◌, ◌≤◌, ◌<◌, ◌==◌, ◌⊎◌, if◌then◌else◌, Bool, true, false, List, [], ◌∷◌, ◌++◌, length, map, replicate, slice_index, Option, Some, None, IfSome, All}
+use Rattle.std.specs.List.{flat_map}
+use Rattle.page_spec.specs.PageMap.{PageMap, page_at}
+use Rattle.run_spec.specs.declared.pins.Pin.{Pin}
+use Rattle.run_spec.specs.declared.pins.Ckpt.{Ckpt}
+use Rattle.run_spec.specs.declared.pins.Ckpt.TheVariants as checkpoint
+use Rattle.run_spec.specs.declared.commits.Mode.TheVariants.{Concurrent}
+use Rattle.run_spec.specs.declared.commits.CommitFault.TheVariants as fault
+use Rattle.run_spec.specs.declared.lines.Act.{Act}
+use Rattle.run_spec.specs.declared.lines.Act.TheVariants as act
+use Rattle.run_spec.specs.declared.lines.Told.{Told}
+use Rattle.run_spec.specs.declared.lines.Told.TheVariants as reply
+use Rattle.run_spec.specs.PageSet.{with_page}
+use Rattle.run_spec.specs.PageLines.{Statement, statement_text, read_text, write_text, image_of, with_image, Fills, AreImages}
+use Rattle.run_spec.specs.Logs.{one_more, told_logs}
+use Rattle.run_spec.specs.Seen.{Seen, Found, Later, Begins, Ends, Fails, OnlyFaults, Submitted, Accepts, Refuses, Checkpoints}
+use Rattle.acts.specs.declared.seats.Seat.{Seat}
+use Rattle.acts.specs.declared.seats.State.{State}
+use Rattle.acts.specs.declared.seats.State.TheVariants.{Out, Open, Refused}
+use Rattle.acts.specs.declared.seats.Transaction.{Transaction}
+
+-- how a session stands; one that never acted is out of a transaction
+abbrev pub state_of : List Seat → ℕ → State
+state_of [] session = Out
+state_of (seat ∷ seats) session = if seat.session == session then seat.state else state_of seats session
+
+-- how many transactions a session has begun
+abbrev pub begun_of : List Seat → ℕ → ℕ
+begun_of [] session = 0
+begun_of (seat ∷ seats) session = if seat.session == session then seat.begun else begun_of seats session
+
+-- the seats with this one: in the place of that of its session, else at the end
+abbrev pub with_seat : List Seat → Seat → List Seat
+with_seat [] seat = seat ∷ []
+with_seat (first ∷ seats) seat = if first.session == seat.session then seat ∷ seats else first ∷ with_seat seats seat
+
+-- the seats with a session in another state
+abbrev pub with_state : List Seat → ℕ → State → List Seat
+with_state seats session state = with_seat seats (record { session = session; begun = begun_of seats session; state = state })
+
+-- the pin of a session that is in a transaction
+abbrev pub pins_in : State → List Pin
+pins_in Out = []
+pins_in (Open transaction) = transaction.pin ∷ []
+pins_in (Refused pin) = pin ∷ []
+
+-- the pins of all sessions
+abbrev pub pins_of : List Seat → List Pin
+pins_of seats = flat_map (λ seat. pins_in seat.state) seats
+
+-- A transaction of page lines is sound: its snapshot has the 16 pages, the pages that it wrote are such images, and they are what
+-- its statements make of any page.
+pub record IsSoundTransaction (page_size : ℕ) (transaction : Transaction) : Type 0 where
+  pub pages : 16 ≤ transaction.pin.size
+  pub images : AreImages page_size transaction.changed
+  pub statements : List Statement
+  pub texts : transaction.said ≡ map statement_text statements
+  pub fills : Fills page_size statements transaction.changed
+
+abbrev pub IsSoundState : ℕ → State → Type 0
+IsSoundState page_size Out = Unit {0}
+IsSoundState page_size (Open transaction) = IsSoundTransaction page_size transaction
+IsSoundState page_size (Refused pin) = Unit {0}
+
+-- each session's transaction is sound
+abbrev pub AreSound : ℕ → List Seat → Type 0
+AreSound page_size seats = All (λ seat. IsSoundState page_size seat.state) seats
+
+-- the page of an act is one that page lines may name, and a byte is a byte
+abbrev pub IsInRange : Act → Type 0
+IsInRange (act.Read session page) = (2 ≤ page) × (page ≤ 16)
+IsInRange (act.Write session page byte) = (2 ≤ page) × (page ≤ 16)
+IsInRange (act.Begin session) = Unit {0}
+IsInRange (act.Commit session) = Unit {0}
+IsInRange (act.Rollback session) = Unit {0}
+IsInRange act.Copy = Unit {0}
+IsInRange act.Step = Unit {0}
+IsInRange act.Logs = Unit {0}
+
+-- a transaction that has just begun
+abbrev pub new_transaction : Pin → Transaction
+new_transaction pin = record { pin = pin; reads = []; changed = []; said = []; wrote = false }
+
+-- a transaction that has read a page of its snapshot
+abbrev pub after_fetch : Transaction → ℕ → Transaction
+after_fetch transaction page = record transaction {
+    reads = with_page transaction.reads page; said = transaction.said ++ read_text page ∷ [] }
+
+-- a transaction that has read a page that it wrote itself
+abbrev pub after_own : Transaction → ℕ → Transaction
+after_own transaction page = record transaction { said = transaction.said ++ read_text page ∷ [] }
+
+-- a transaction that has written a page
+abbrev pub after_write : ℕ → Transaction → ℕ → ℕ → Transaction
+after_write page_size transaction page byte = record transaction {
+    changed = with_image transaction.changed page (replicate page_size byte);
+    said = transaction.said ++ write_text page byte ∷ [];
+    wrote = true }
+
+-- what the session's transaction hands in to be committed
+abbrev pub submitted_of : List Seat → ℕ → Transaction → Submitted
+submitted_of seats session transaction = record {
+    snap = transaction.pin.n;
+    reads = transaction.reads;
+    change = record { mode = Concurrent; base = transaction.pin.size; changed = transaction.changed; fresh = []; freed = []; tail = false };
+    said = transaction.said;
+    wrote = transaction.wrote;
+    session = session;
+    ordinal = begun_of seats session }
+
+-- What an engine is before and after an act: whether it is alone and a transaction may always begin, what it tells, and the map of a pin.
+pub record Between : Type 1 where
+  pub alone : Type 0
+  pub free : Type 0
+  pub old : Seen
+  pub new : Seen
+  pub map_before : Pin → Option PageMap
+  pub map_after : Pin → Option PageMap
+
+-- nothing but the answer: neither the sessions nor the engine changed
+abbrev pub Same : Between → List Seat → List Seat → Told → Told → Type 0
+Same engine before after answer told = (told ≡ answer) × (after ≡ before) × (engine.new ≡ engine.old)
+
+-- BEGIN
+abbrev pub BeginActs : Between → ℕ → List Seat → List Seat → Told → State → Type 0
+BeginActs engine session before after told Out = (told ≡ reply.Ok) × ((pin : Pin)
+    × Found engine.alone engine.free engine.old (λ mid. (begun : Seen) × Begins mid pin begun × Later engine.alone engine.free begun engine.new
+        × (engine.map_after pin ≡ mid.newest))
+    × (after ≡ with_seat before (record {
+        session = session; begun = one_more (begun_of before session); state = Open (new_transaction pin) })))
+BeginActs engine session before after told (Open transaction) = Same engine before after reply.InTransaction told
+BeginActs engine session before after told (Refused pin) = Same engine before after reply.MustRollBack told
+
+-- READ of a page of the transaction's snapshot, which may fail where the disk does
+abbrev pub FetchOpen : Between → ℕ → ℕ → List Seat → List Seat → Told → Transaction → Type 0
+FetchOpen engine session page before after told transaction =
+    ((told ≡ reply.Disk) × (after ≡ before) × Found engine.alone engine.free engine.old (λ mid. Fails mid engine.new))
+    ⊎ ((byte : ℕ) × (told ≡ reply.Byte byte)
+        × IfSome (engine.map_before transaction.pin) (λ pages. byte ≡ slice_index (page_at pages page) 0)
+        × (after ≡ with_state before session (Open (after_fetch transaction page)))
+        × Found engine.alone engine.free engine.old (λ mid. OnlyFaults mid engine.new))
+
+-- READ of a page that the transaction wrote itself, or of its snapshot
+abbrev pub ReadOpen : Between → ℕ → ℕ → List Seat → List Seat → Told → Transaction → Option (List ℕ) → Type 0
+ReadOpen engine session page before after told transaction (Some bytes) = (told ≡ reply.Byte (slice_index bytes 0))
+    × (after ≡ with_state before session (Open (after_own transaction page))) × (engine.new ≡ engine.old)
+ReadOpen engine session page before after told transaction None = FetchOpen engine session page before after told transaction
+
+abbrev pub ReadActs : Between → ℕ → ℕ → List Seat → List Seat → Told → State → Type 0
+ReadActs engine session page before after told Out = Same engine before after reply.NoTransaction told
+ReadActs engine session page before after told (Open transaction) =
+    ReadOpen engine session page before after told transaction (image_of transaction.changed page)
+ReadActs engine session page before after told (Refused pin) = Same engine before after reply.MustRollBack told
+
+-- WRITE
+abbrev pub WriteActs : Between → ℕ → ℕ → ℕ → List Seat → List Seat → Told → State → Type 0
+WriteActs engine session page byte before after told Out = Same engine before after reply.NoTransaction told
+WriteActs engine session page byte before after told (Open transaction) = (told ≡ reply.Ok)
+    × (after ≡ with_state before session (Open (after_write engine.old.page_size transaction page byte)))
+    × (engine.new ≡ engine.old)
+WriteActs engine session page byte before after told (Refused pin) = Same engine before after reply.MustRollBack told
+
+-- COMMIT of an open transaction, by its answer
+abbrev pub CommitOpen : Between → ℕ → List Seat → List Seat → Transaction → Told → Type 0
+CommitOpen engine session before after transaction (reply.Done receipt) =
+    Found engine.alone engine.free engine.old (λ mid. (done : Seen) × Accepts mid (submitted_of before session transaction) receipt done
+        × Ends done transaction.pin engine.new)
+    × (after ≡ with_state before session Out)
+CommitOpen engine session before after transaction (reply.Busy page number) =
+    Found engine.alone engine.free engine.old
+        (λ mid. Refuses mid (submitted_of before session transaction) (fault.BusySnapshot page number) engine.new)
+    × (after ≡ with_state before session (Refused transaction.pin))
+CommitOpen engine session before after transaction reply.Disk =
+    Found engine.alone engine.free engine.old (λ mid. Refuses mid (submitted_of before session transaction) fault.Disk engine.new)
+    × (after ≡ before)
+CommitOpen engine session before after transaction (reply.Stopped log at) =
+    Found engine.alone engine.free engine.old (λ mid. Refuses mid (submitted_of before session transaction) (fault.Stopped log at) engine.new)
+    × (after ≡ before)
+CommitOpen engine session before after transaction (reply.Size pages) =
+    ((frames : ℕ) × Found engine.alone engine.free engine.old
+        (λ mid. Refuses mid (submitted_of before session transaction) (fault.SizeLimit pages frames) engine.new))
+    × (after ≡ before)
+CommitOpen engine session before after transaction reply.Ok = ⊥
+CommitOpen engine session before after transaction (reply.Byte byte) = ⊥
+CommitOpen engine session before after transaction reply.InTransaction = ⊥
+CommitOpen engine session before after transaction reply.NoTransaction = ⊥
+CommitOpen engine session before after transaction reply.MustRollBack = ⊥
+CommitOpen engine session before after transaction (reply.Ckpt answer) = ⊥
+CommitOpen engine session before after transaction (reply.Logs logs) = ⊥
+
+abbrev pub CommitActs : Between → ℕ → List Seat → List Seat → Told → State → Type 0
+CommitActs engine session before after told Out = Same engine before after reply.NoTransaction told
+CommitActs engine session before after told (Open transaction) = CommitOpen engine session before after transaction told
+CommitActs engine session before after told (Refused pin) = Same engine before after reply.MustRollBack told
+
+-- ROLLBACK
+abbrev pub RollbackActs : Between → ℕ → List Seat → List Seat → Told → State → Type 0
+RollbackActs engine session before after told Out = Same engine before after reply.NoTransaction told
+RollbackActs engine session before after told (Open transaction) = (told ≡ reply.Ok)
+    × (after ≡ with_state before session Out) × Ends engine.old transaction.pin engine.new
+RollbackActs engine session before after told (Refused pin) = (told ≡ reply.Ok)
+    × (after ≡ with_state before session Out) × Ends engine.old pin engine.new
+
+-- one step of a checkpoint, which may fail where the disk does
+abbrev pub StepActs : Between → Told → Type 0
+StepActs engine told = ((told ≡ reply.Disk) × Found engine.alone engine.free engine.old (λ mid. Fails mid engine.new))
+    ⊎ ((answer : Ckpt) × (told ≡ reply.Ckpt answer) × Found engine.alone engine.free engine.old (λ mid. Checkpoints mid answer engine.new))
+
+-- a step that copied no page
+abbrev pub IsLast : Ckpt → Type 0
+IsLast (checkpoint.Copied page) = ⊥
+IsLast checkpoint.Finished = Unit {0}
+IsLast checkpoint.Idle = Unit {0}
+IsLast (checkpoint.Held count) = Unit {0}
+
+-- Steps of a checkpoint that each copied a page, from one moment to a later one, and then one that didn't, or that failed.
+abbrev pub Copies : Type 0 → Type 0 → List Ckpt → Seen → Told → Seen → Type 0
+Copies alone free [] old told new = ((told ≡ reply.Disk) × Found alone free old (λ mid. Fails mid new))
+    ⊎ ((answer : Ckpt) × IsLast answer × (told ≡ reply.Ckpt answer) × Found alone free old (λ mid. Checkpoints mid answer new))
+Copies alone free (answer ∷ answers) old told new = (copied : Seen) × (page : ℕ) × (answer ≡ checkpoint.Copied page)
+    × Found alone free old (λ mid. Checkpoints mid answer copied) × Copies alone free answers copied told new
+
+-- Steps of a checkpoint one after another, until one copies no page.
+abbrev pub CopyActs : Between → Told → Type 0
+CopyActs engine told = (answers : List Ckpt) × Copies engine.alone engine.free answers engine.old told engine.new
+
+-- An act over an engine: what it is answered, and what becomes of the sessions and of the engine.
+abbrev pub Acts : Between → List Seat → Act → Told → List Seat → Type 0
+Acts engine before (act.Begin session) told after = BeginActs engine session before after told (state_of before session)
+Acts engine before (act.Read session page) told after = ReadActs engine session page before after told (state_of before session)
+Acts engine before (act.Write session page byte) told after =
+    WriteActs engine session page byte before after told (state_of before session)
+Acts engine before (act.Commit session) told after = CommitActs engine session before after told (state_of before session)
+Acts engine before (act.Rollback session) told after = RollbackActs engine session before after told (state_of before session)
+Acts engine before act.Step told after = StepActs engine told × (after ≡ before)
+Acts engine before act.Copy told after = CopyActs engine told × (after ≡ before)
+Acts engine before act.Logs told after = (after ≡ before)
+    × Found engine.alone engine.free engine.old (λ mid. (told ≡ reply.Logs (told_logs mid.logs)) × (engine.new ≡ mid))

@@ -1,0 +1,94 @@
+-- The engine in memory: its page maps, one for each commit and the first, and its history.
+use Rattle.std.specs.Prelude.{◌≡◌, ℕ, ◌+◌, ◌^◌, ◌<◌, ◌≤◌, Bool, true, false, List, [], ◌∷◌, ◌++◌, length, take, Contains, Option, Some, None, All, slice_get, suc, zero}
+use Rattle.std.specs.List.{slice_index_or}
+use Rattle.page_spec.specs.PageMap.{PageMap, Agree, page_sizes}
+use Rattle.run_spec.specs.declared.pins.Pin.{Pin}
+use Rattle.run_spec.specs.declared.pins.Lock.TheVariants.{Part1}
+use Rattle.run_spec.specs.declared.commits.Commit.{Commit}
+use Rattle.run_spec.specs.declared.commits.Mode.TheVariants as mode
+use Rattle.run_spec.specs.History.{counts, statements_of, SnapsBefore}
+use Rattle.run_spec.specs.Good.{HasSizes}
+use Rattle.run_spec.specs.Change.{laid}
+use Rattle.run_spec.specs.Seen.{Seen, Submitted, commit_of}
+use Rattle.page_face.specs.declared.prepared.Prepared.{Prepared}
+
+-- what the engine holds: the page size and the bytes of a page in use, the maps, first the one at the start and then the one after
+-- each commit, and the commits
+pub record PlainState : Type 0 where
+  pub page_size : ℕ
+  pub usable : ℕ
+  pub maps : List PageMap
+  pub history : List Commit
+
+-- the newest map
+abbrev pub newest_of : PlainState → PageMap
+newest_of plain = slice_index_or plain.maps (length plain.history) []
+
+-- the numbers from 1 to this one
+abbrev pub up_to : ℕ → List ℕ
+up_to zero = []
+up_to (suc number) = up_to number ++ suc number ∷ []
+
+-- what the engine tells of itself: each commit is its own, it never stops, it has no faults and keeps no logs
+abbrev pub plain_seen : PlainState → Seen
+plain_seen plain = record {
+    history = plain.history;
+    own = up_to (length plain.history);
+    newest = Some (newest_of plain);
+    size = length (newest_of plain);
+    stopped = None;
+    faults = 0;
+    page_size = plain.page_size;
+    usable = plain.usable;
+    logs = None }
+
+-- A commit leads from one map to the next: the two agree on all pages that it doesn't count as having written, for a concurrent
+-- transaction, and for a plain one it wrote page 1.
+pub record Follows (old : PageMap) (commit : Commit) (new : PageMap) : Type 0 where
+  pub agrees : (numbers : List ℕ) → ((q : ℕ) → Contains numbers q → counts mode.Concurrent q commit ≡ false) → Agree old new numbers
+  pub first_page : counts mode.Plain 1 commit ≡ true
+
+-- The engine is whole: its sizes are legal, there is one map more than commits, all have whole pages, and each commit leads from
+-- one map to the next.
+pub record IsPlain (plain : PlainState) : Type 0 where
+  pub legal : Contains page_sizes plain.page_size
+  pub usable_least : 480 ≤ plain.usable
+  pub usable_most : plain.usable ≤ plain.page_size
+  pub count : length plain.maps ≡ length plain.history + 1
+  pub few : All (λ pages. (1 ≤ length pages) × (length pages < 2 ^ 32)) plain.maps
+  pub whole : All (λ pages. HasSizes pages (length pages) plain.page_size) plain.maps
+  pub chain : (k : ℕ) (old new : PageMap) (commit : Commit) → slice_get plain.maps k ≡ Some old
+    → slice_get plain.history k ≡ Some commit → slice_get plain.maps (k + 1) ≡ Some new → Follows old commit new
+
+-- The pin is of one of the maps.
+pub record Holds (plain : PlainState) (pin : Pin) : Type 0 where
+  pub n : pin.n ≤ length plain.history
+  pub size : pin.size ≡ length (slice_index_or plain.maps pin.n [])
+
+-- The engine stands for a run from the first map: each of its maps is sound, and the statements of the commits before it lead to
+-- it from the first.
+pub record PlainRuns (sound : PageMap → Type 0) (leads : PageMap → List (List ℕ) → PageMap → Type 0) (first : PageMap)
+    (plain : PlainState) : Type 0 where
+  pub whole : IsPlain plain
+  pub snaps : SnapsBefore 0 plain.history
+  pub each : (n : ℕ) (pages : PageMap) → slice_get plain.maps n ≡ Some pages
+    → sound pages × leads first (statements_of (take n plain.history)) pages
+
+-- the engine is whole, and these pins are of its maps
+abbrev pub PlainLive : PlainState → List Pin → Type 0
+PlainLive plain pins = IsPlain plain × All (Holds plain) pins
+
+-- the engine after one more commit
+abbrev pub committed_state : PlainState → Submitted → PlainState
+committed_state plain asked = record plain {
+    maps = plain.maps ++ laid (newest_of plain) asked.change ∷ [];
+    history = plain.history ++ commit_of asked ∷ [] }
+
+-- The transaction may be laid over the newest map: it changes pages that are there, each whole, and makes none.
+pub record MayAdd {M : Type 0} (plain : PlainState) (prepared : Prepared M) : Type 0 where
+  pub whole : IsPlain plain
+  pub snap : prepared.snap ≤ length plain.history
+  pub in_range : All (λ image. (1 ≤ image.page) × (image.page ≤ length (newest_of plain))) prepared.changed
+  pub images : All (λ image. length image.bytes ≡ plain.page_size) prepared.changed
+  pub fresh : prepared.fresh ≡ []
+  pub freed : prepared.freed ≡ []

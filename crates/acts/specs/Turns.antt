@@ -1,0 +1,75 @@
+-- What an act on one seat asks, how it bears on the list of seats, and what it leaves of an engine.
+use Rattle.std.specs.Prelude.{◌≡◌, ℕ, ◌≤◌, List, ◌++◌, Contains, Option, All, Result, Ok, Err, alloc_error}
+use Rattle.std.specs.declared.alloc.AllocError.{AllocError}
+use Rattle.run_spec.specs.declared.commits.CommitFault.{CommitFault}
+use Rattle.run_spec.specs.declared.commits.CommitFault.TheVariants as fault
+use Rattle.run_spec.specs.declared.lines.Told.{Told}
+use Rattle.run_spec.specs.declared.lines.Told.TheVariants as reply
+use Rattle.page_spec.specs.PageMap.{PageMap}
+use Rattle.run_spec.specs.declared.pins.Pin.{Pin}
+use Rattle.run_spec.specs.declared.lines.Act.{Act}
+use Rattle.run_spec.specs.declared.lines.Act.TheVariants as act
+use Rattle.run_spec.specs.Logs.{one_more}
+use Rattle.run_spec.specs.Seen.{Seen, Found, Later, Begins}
+use Rattle.page_face.specs.Pins.{IsLive}
+use Rattle.acts.specs.declared.seats.Seat.{Seat}
+use Rattle.acts.specs.declared.seats.State.{State}
+use Rattle.acts.specs.declared.seats.State.TheVariants.{Out, Open, Refused}
+use Rattle.acts.specs.declared.seats.Transaction.{Transaction}
+use Rattle.acts.specs.declared.turns.Deed.{Deed}
+use Rattle.acts.specs.declared.turns.Deed.TheVariants.{Read, Write, Commit, Rollback}
+use Rattle.acts.specs.Pagers.{Between, state_of, begun_of, with_state, new_transaction}
+
+-- the act of a session that asks this
+abbrev pub act_of : ℕ → Deed → Act
+act_of session (Read page) = act.Read session page
+act_of session (Write page byte) = act.Write session page byte
+act_of session Commit = act.Commit session
+act_of session Rollback = act.Rollback session
+
+-- A session, which has begun so many transactions, went from one state to another, and nothing else changed.
+pub record Moves (before : List Seat) (session ordinal : ℕ) (old new : State) (after : List Seat) : Type 0 where
+  pub state : state_of before session ≡ old
+  pub begun : begun_of before session ≡ ordinal
+  pub put : after ≡ with_state before session new
+  pub rests : new ≡ old → after ≡ before
+
+-- each of these pins holds
+abbrev pub AllLive : {E : Type 0} → (E → List Pin → Type 0) → E → List Pin → Type 0
+AllLive live engine pins = All (λ pin. IsLive live engine pin) pins
+
+-- What stays of an engine where, of the pins that hold in it, these became those.
+pub record Stays {E : Type 0} (seen : E → Seen) (live : E → List Pin → Type 0) (map_at : E → Pin → Option PageMap)
+    (begins : E → PageMap → Type 0) (free alone : E → Type 0) (loans : E → List ℕ) (old : E) (olds : List Pin) (new : E)
+    (news : List Pin) : Type 0 where
+  pub holds : (front back : List Pin) → live old (front ++ (olds ++ back)) → live new (front ++ (news ++ back))
+  pub maps : (front back : List Pin) (pin : Pin) → live old (front ++ (olds ++ back)) → Contains (front ++ (olds ++ back)) pin
+    → Contains (front ++ (news ++ back)) pin → map_at new pin ≡ map_at old pin
+  pub runs : (first : PageMap) → begins old first → begins new first
+  pub is_free : free old → free new
+  pub is_alone : alone old → alone new
+  pub references : loans new ≡ loans old
+  pub pages : (seen old).size ≤ (seen new).size
+  pub page_size : (seen new).page_size ≡ (seen old).page_size
+
+-- how a session stands after COMMIT of its transaction was refused, and what it is told
+abbrev pub IsRefused : CommitFault → Transaction → State → Result Told AllocError → Type 0
+IsRefused (fault.Stopped log at) transaction new told = (told ≡ Ok (reply.Stopped log at)) × (new ≡ Open transaction)
+IsRefused (fault.BusySnapshot page number) transaction new told = (told ≡ Ok (reply.Busy page number)) × (new ≡ Refused transaction.pin)
+IsRefused (fault.SizeLimit pages frames) transaction new told = (told ≡ Ok (reply.Size pages)) × (new ≡ Open transaction)
+IsRefused fault.Memory transaction new told = (told ≡ Err alloc_error) × (new ≡ Open transaction)
+IsRefused fault.Disk transaction new told = (told ≡ Ok reply.Disk) × (new ≡ Open transaction)
+IsRefused (fault.Corrupt page) transaction new told = ⊥
+
+-- a session has begun a transaction, which changed nothing else of the engine that is told
+abbrev pub HasBegun : Between → Seat → Seat → Type 0
+HasBegun engine old new = (pin : Pin)
+    × Found engine.alone engine.free engine.old (λ mid. (begun : Seen) × Begins mid pin begun × Later engine.alone engine.free begun engine.new
+        × (engine.map_after pin ≡ mid.newest))
+    × (new ≡ record { session = old.session; begun = one_more old.begun; state = Open (new_transaction pin) })
+
+-- BEGIN of a session that has a seat, by how it stands
+abbrev pub IsBegun : Between → Seat → Seat → Told → State → Type 0
+IsBegun engine old new told Out = (told ≡ reply.Ok) × HasBegun engine old new
+IsBegun engine old new told (Open transaction) = (told ≡ reply.InTransaction) × (new ≡ old) × (engine.new ≡ engine.old)
+IsBegun engine old new told (Refused pin) = (told ≡ reply.MustRollBack) × (new ≡ old) × (engine.new ≡ engine.old)

@@ -1,0 +1,69 @@
+// A store of pages in memory with its sessions.
+ghost use Rattle.std.specs.Prelude.{◌≡◌, IfOk, OnErr};
+ghost use Rattle.run_spec.specs.World.{World, zeros, start, step};
+ghost use Rattle.acts.specs.Pagers.{IsInRange};
+ghost use Rattle.acts.specs.InMemory.{Memory, IsAt};
+
+use crate::{Pagers, Plain, Raw};
+use disk_face::Bytes;
+use run_spec::{Act, Told};
+use std::alloc::{AllocError, Global};
+use std::marker::Model;
+
+/// A store of 16 pages in memory, with the sessions of page lines that act on it.
+///
+/// Each act is answered as a run over whole page maps answers it: a contract sees at which world the store stands.
+#[derive(Drop)]
+pub struct InMemory {
+    plain: Plain<Raw>,
+    pagers: Pagers,
+}
+
+impl Model for InMemory {
+    ghost use Rattle.acts.specs.InMemory.{Memory};
+
+    ghost Value = { Memory };
+
+    ghost view = { λ memory. record { plain = memory.plain; seats = memory.pagers } };
+}
+
+impl InMemory {
+    /// A store of 16 pages of 4096 zeros, on which nothing has happened yet. The error is want of memory.
+    pub fn new(alloc: Global) -> Result<InMemory, AllocError>
+        ensures { IfOk result (λ memory. IsAt memory start) }
+    {
+        let pages = zero_pages(alloc)?;
+        let plain = Plain::new(alloc, pages)?;
+        Ok(InMemory {
+            plain,
+            pagers: Pagers::new(alloc),
+        })
+    }
+
+    /// Acts. The error is want of memory, and leaves the store where it stood.
+    pub fn act(&mut self, act: Act) -> Result<Told, AllocError>
+        requires range { IsInRange act }
+        requires stands { (world : World) × IsAt self.old world }
+        ensures acts { (world : World) → IsAt self.old world
+            → IfOk result (λ told. (told ≡ (step world act).told) × IsAt self.new (step world act).world) }
+        ensures want { (world : World) → IsAt self.old world → OnErr result (IsAt self.new world) }
+        ensures stands { (world : World) × IsAt self.new world }
+    {
+        self.pagers.act(&mut self.plain, act)
+    }
+}
+
+// How many pages a store has.
+const PAGES: usize = 16;
+
+// The pages of a new store.
+fn zero_pages(alloc: Global) -> Result<Vec<Bytes>, AllocError>
+    ensures { IfOk result (λ pages. pages.items ≡ zeros) }
+{
+    let page = vec![in alloc; 0; 4096]?;
+    let mut pages = Vec::new(alloc);
+    for _ in 0..PAGES {
+        pages.push(Bytes::of(alloc, page.as_slice())?)?;
+    }
+    Ok(pages)
+}

@@ -1,0 +1,181 @@
+// The sessions of page lines.
+ghost use Rattle.std.specs.Prelude.{◌≡◌, ℕ, ◌≤◌, ◌<◌, ◌==◌, position, List, [], ◌++◌, Contains, IfOk, OnOk, OnErr, Option};
+ghost use Rattle.page_spec.specs.PageMap.{PageMap};
+ghost use Rattle.run_spec.specs.declared.lines.Act.TheVariants as act;
+ghost use Rattle.run_spec.specs.declared.pins.Pin.{Pin};
+ghost use Rattle.run_spec.specs.Seen.{Found, OnlyFaults};
+ghost use Rattle.acts.specs.Pagers.{Acts, AreSound, IsInRange, pins_of};
+ghost use Rattle.acts.specs.Turns.{act_of, Stays};
+
+use crate::Raw;
+use crate::seats::{Seat, State};
+use crate::turns::{Deed, begin_again, begin_out, copy, logs, step, turn};
+use page_face::Engine;
+use run_spec::{Act, Told};
+use std::alloc::{AllocError, Global};
+use std::marker::Model;
+
+/// The sessions that act on an engine's pages by page lines. A contract sees the list of their seats.
+#[derive(Drop)]
+pub struct Pagers {
+    alloc: Global,
+    seats: Vec<Seat>,
+    buf: Vec<u8>,
+}
+
+impl Model for Pagers {
+    ghost use Rattle.std.specs.Prelude.{List};
+    ghost use Rattle.acts.specs.declared.seats.Seat.{Seat};
+
+    ghost Value = { List Seat };
+
+    ghost view = { λ pagers. pagers.seats.items };
+}
+
+impl Pagers {
+    /// No session has acted yet. It takes no memory.
+    pub fn new(alloc: Global) -> Pagers
+        ensures { result ≡ [] }
+    {
+        Pagers {
+            alloc,
+            seats: Vec::new(alloc),
+            buf: Vec::new(alloc),
+        }
+    }
+
+    /// Acts over an engine on which a transaction may always begin, and whose maps have 16 pages.
+    /// The error is want of memory, and leaves the session's transaction as it was.
+    pub fn act<E: Engine<Raw>>(&mut self, engine: &mut E, act: Act) -> Result<Told, AllocError>
+        requires free { E.free engine.old }
+        requires pages { 16 ≤ (E.seen engine.old).size }
+        requires range { IsInRange act }
+        requires sound { AreSound (E.seen engine.old).page_size self.old }
+        requires live { (others : List Pin) × E.live engine.old (pins_of self.old ++ others) }
+
+        ensures acts { IfOk result (λ told. Acts (record {
+            alone = E.alone engine.old; free = E.free engine.old; old = E.seen engine.old; new = E.seen engine.new;
+            map_before = E.map_at engine.old; map_after = E.map_at engine.new }) self.old act told self.new) }
+
+        // Want of memory leaves the sessions as they were, and of the engine all but its count of faults.
+        ensures want { OnErr result (self.new ≡ self.old) }
+        ensures wanting { OnErr result (Found (E.alone engine.old) (E.free engine.old) (E.seen engine.old) (λ mid. OnlyFaults mid (E.seen engine.new))) }
+
+        // What the next act asks for.
+        ensures free { E.free engine.new }
+        ensures pages { 16 ≤ (E.seen engine.new).size }
+        ensures page_size { (E.seen engine.new).page_size ≡ (E.seen engine.old).page_size }
+        ensures sound { AreSound (E.seen engine.new).page_size self.new }
+        ensures live { (others : List Pin) → E.live engine.old (pins_of self.old ++ others) → E.live engine.new (pins_of self.new ++ others) }
+
+        // The maps of pins that stay are as they were.
+        ensures maps { (others : List Pin) (pin : Pin) → E.live engine.old (pins_of self.old ++ others) → Contains (pins_of self.new ++ others) pin
+            → Contains (pins_of self.old ++ others) pin → E.map_at engine.new pin ≡ E.map_at engine.old pin }
+        ensures runs { (first : PageMap) → E.begins engine.old first → E.begins engine.new first }
+        ensures alone { E.alone engine.old → E.alone engine.new }
+        ensures loans { E.loans engine.new ≡ E.loans engine.old }
+    {
+        act_on(self.alloc, &mut self.seats, &mut self.buf, engine, act)
+    }
+}
+
+// An act over the list of seats.
+fn act_on<E: Engine<Raw>>(
+    alloc: Global,
+    seats: &mut Vec<Seat>,
+    buf: &mut Vec<u8>,
+    engine: &mut E,
+    act: Act,
+) -> Result<Told, AllocError>
+    requires free { E.free engine.old }
+    requires pages { 16 ≤ (E.seen engine.old).size }
+    requires range { IsInRange act }
+    requires sound { AreSound (E.seen engine.old).page_size seats.old.items }
+    requires live { (others : List Pin) × E.live engine.old (pins_of seats.old.items ++ others) }
+    ensures acts { IfOk result (λ told. Acts (record {
+        alone = E.alone engine.old; free = E.free engine.old; old = E.seen engine.old; new = E.seen engine.new;
+        map_before = E.map_at engine.old; map_after = E.map_at engine.new }) seats.old.items act told seats.new.items) }
+    ensures want { OnErr result (seats.new.items ≡ seats.old.items) }
+    ensures wanting { OnErr result (Found (E.alone engine.old) (E.free engine.old) (E.seen engine.old) (λ mid. OnlyFaults mid (E.seen engine.new))) }
+    ensures sound { AreSound (E.seen engine.new).page_size seats.new.items }
+    ensures stays { Stays E.seen E.live E.map_at E.begins E.free E.alone E.loans engine.old (pins_of seats.old.items) engine.new (pins_of seats.new.items) }
+{
+    match act {
+        Act::Begin { session } => begin(alloc, seats, engine, session),
+        Act::Read { session, page } => in_seat(alloc, seats, buf, engine, session, Deed::Read { page }),
+        Act::Write { session, page, byte } => {
+            in_seat(alloc, seats, buf, engine, session, Deed::Write { page, byte })
+        }
+        Act::Commit { session } => in_seat(alloc, seats, buf, engine, session, Deed::Commit),
+        Act::Rollback { session } => in_seat(alloc, seats, buf, engine, session, Deed::Rollback),
+        Act::Copy => Ok(copy(engine)),
+        Act::Step => Ok(step(engine)),
+        Act::Logs => Ok(logs(engine)),
+    }
+}
+
+// The index of the seat of this session.
+fn place_of(seats: &[Seat], session: u32) -> Option<usize>
+    ensures { result ≡ position (λ seat. seat.session == session) seats.now }
+{
+    seats.iter().position(|seat| seat.session == session)
+}
+
+// Does what is asked of a session's transaction.
+fn in_seat<E: Engine<Raw>>(
+    alloc: Global,
+    seats: &mut Vec<Seat>,
+    buf: &mut Vec<u8>,
+    engine: &mut E,
+    session: u32,
+    deed: Deed,
+) -> Result<Told, AllocError>
+    requires range { IsInRange (act_of session deed) }
+    requires sound { AreSound (E.seen engine.old).page_size seats.old.items }
+    requires live { (others : List Pin) × E.live engine.old (pins_of seats.old.items ++ others) }
+    ensures acts { IfOk result (λ told. Acts (record {
+        alone = E.alone engine.old; free = E.free engine.old; old = E.seen engine.old; new = E.seen engine.new;
+        map_before = E.map_at engine.old; map_after = E.map_at engine.new }) seats.old.items (act_of session deed) told seats.new.items) }
+    ensures want { OnErr result (seats.new.items ≡ seats.old.items) }
+    ensures wanting { OnErr result (Found (E.alone engine.old) (E.free engine.old) (E.seen engine.old) (λ mid. OnlyFaults mid (E.seen engine.new))) }
+    ensures sound { AreSound (E.seen engine.new).page_size seats.new.items }
+    ensures stays { Stays E.seen E.live E.map_at E.begins E.free E.alone E.loans engine.old (pins_of seats.old.items) engine.new (pins_of seats.new.items) }
+{
+    match place_of(seats.as_slice(), session) {
+        None => Ok(Told::NoTransaction),
+        Some(at) => turn(alloc, buf, engine, &mut seats[at], deed),
+    }
+}
+
+// Begins a transaction. Room for the seat of a new session is taken first.
+fn begin<E: Engine<Raw>>(
+    alloc: Global,
+    seats: &mut Vec<Seat>,
+    engine: &mut E,
+    session: u32,
+) -> Result<Told, AllocError>
+    requires free { E.free engine.old }
+    requires pages { 16 ≤ (E.seen engine.old).size }
+    requires sound { AreSound (E.seen engine.old).page_size seats.old.items }
+    ensures acts { IfOk result (λ told. Acts (record {
+        alone = E.alone engine.old; free = E.free engine.old; old = E.seen engine.old; new = E.seen engine.new;
+        map_before = E.map_at engine.old; map_after = E.map_at engine.new }) seats.old.items (act.Begin session) told seats.new.items) }
+    ensures want { OnErr result (seats.new.items ≡ seats.old.items) }
+    ensures wanting { OnErr result (E.seen engine.new ≡ E.seen engine.old) }
+    ensures sound { AreSound (E.seen engine.new).page_size seats.new.items }
+    ensures stays { Stays E.seen E.live E.map_at E.begins E.free E.alone E.loans engine.old (pins_of seats.old.items) engine.new (pins_of seats.new.items) }
+{
+    match place_of(seats.as_slice(), session) {
+        Some(at) => Ok(begin_again(alloc, engine, &mut seats[at])),
+        None => {
+            let at = seats.len();
+            seats.push(Seat {
+                session,
+                begun: 0,
+                state: State::Out,
+            })?;
+            begin_out(alloc, engine, &mut seats[at]);
+            Ok(Told::Ok)
+        }
+    }
+}

@@ -1,0 +1,431 @@
+// What an act does to one session's transaction, and to the engine.
+ghost use Rattle.std.specs.Prelude.{◌≡◌, ◌≢◌, ℕ, ◌+◌, ◌≤◌, ◌<◌, List, [], ◌∷◌, length, slice_index, IfOk, OnOk, OnErr, IfSome, MatchOption, MatchResult};
+ghost use Rattle.page_spec.specs.PageMap.{page_at};
+ghost use Rattle.run_spec.specs.declared.commits.CommitFault.TheVariants as fault;
+ghost use Rattle.run_spec.specs.PageLines.{image_of};
+ghost use Rattle.run_spec.specs.Logs.{one_more, told_logs};
+ghost use Rattle.run_spec.specs.Seen.{Found, Fails, OnlyFaults, Checkpoints};
+ghost use Rattle.page_face.specs.Pins.{IsLive};
+ghost use Rattle.acts.specs.declared.seats.Seat.{Seat};
+ghost use Rattle.acts.specs.declared.seats.State.TheVariants as state;
+ghost use Rattle.acts.specs.Pagers.{Acts, ReadOpen, FetchOpen, CommitOpen, IsInRange, IsSoundState, IsSoundTransaction, new_transaction, pins_in, StepActs, CopyActs, IsLast};
+ghost use Rattle.acts.specs.Turns.{act_of, Moves, AllLive, Stays, IsRefused, HasBegun, IsBegun};
+ghost use Rattle.run_spec.specs.declared.pins.Pin.{Pin};
+ghost use Rattle.run_spec.specs.declared.lines.Told.TheVariants as reply;
+
+use crate::Raw;
+use crate::seats::{Seat, State, Transaction};
+use crate::transaction::{note_fetch, note_own, note_write, own_byte};
+use disk_face::Failed;
+use page_face::{Ckpt, CommitFault, Engine, Mode, Pin, Prepared, ReadSet, Who};
+use run_spec::Told;
+use sqlite_items::Items;
+use std::alloc::{AllocError, Global};
+use std::marker::PhantomData;
+use std::mem;
+
+/// What an act asks of a session's transaction.
+#[derive(Clone, Copy)]
+pub enum Deed {
+    /// The first byte of a page.
+    Read {
+        /// The page.
+        page: u32,
+    },
+    /// That every byte of a page is set.
+    Write {
+        /// The page.
+        page: u32,
+        /// The value of each byte.
+        byte: u8,
+    },
+    /// That it is committed.
+    Commit,
+    /// That it is given up.
+    Rollback,
+}
+
+// Gives the buffer this many bytes. The error is want of memory.
+fn make_room(buf: &mut Vec<u8>, size: usize) -> Result<(), AllocError>
+    ensures { OnOk result (length buf.new.items ≡ size) }
+{
+    if buf.len() == size {
+        Ok(())
+    } else {
+        buf.resize(size, 0)
+    }
+}
+
+// The first byte of a page of the pin's map, or none where the disk failed. The error is want of memory.
+fn first_byte<E: Engine<Raw>>(
+    buf: &mut Vec<u8>,
+    engine: &mut E,
+    pin: &Pin,
+    page: u32,
+) -> Result<Option<u8>, AllocError>
+    requires live { IsLive E.live engine.old pin.now }
+    requires page { (1 ≤ page) × (page ≤ pin.now.size) }
+    ensures found { IfOk result (λ found. MatchOption found
+        (Found (E.alone engine.old) (E.free engine.old) (E.seen engine.old) (λ mid. Fails mid (E.seen engine.new)))
+        (λ byte. IfSome (E.map_at engine.old pin.now) (λ pages. byte ≡ slice_index (page_at pages page) 0)
+            × Found (E.alone engine.old) (E.free engine.old) (E.seen engine.old) (λ mid. OnlyFaults mid (E.seen engine.new)))) }
+    ensures wanting { OnErr result (Found (E.alone engine.old) (E.free engine.old) (E.seen engine.old) (λ mid. OnlyFaults mid (E.seen engine.new))) }
+    ensures stays { Stays E.seen E.live E.map_at E.begins E.free E.alone E.loans engine.old [] engine.new [] }
+{
+    make_room(buf, engine.page_size())?;
+    match engine.fetch(pin, page, buf.as_mut_slice()) {
+        Ok(()) => Ok(Some(buf[0])),
+        Err(_) => Ok(None),
+    }
+}
+
+// Reads a page of the snapshot. The error is want of memory, and leaves the transaction as it was.
+fn fetch_open<E: Engine<Raw>>(
+    alloc: Global,
+    buf: &mut Vec<u8>,
+    engine: &mut E,
+    transaction: &mut Transaction,
+    page: u32,
+) -> Result<Told, AllocError>
+    requires range { (2 ≤ page) × (page ≤ 16) }
+    requires sound { IsSoundTransaction (E.seen engine.old).page_size transaction.old }
+    requires live { IsLive E.live engine.old transaction.old.pin }
+    ensures acts { IfOk result (λ told. (before after : List Seat) (session ordinal : ℕ)
+        → Moves before session ordinal (state.Open transaction.old) (state.Open transaction.new) after
+        → FetchOpen (record {
+            alone = E.alone engine.old; free = E.free engine.old; old = E.seen engine.old; new = E.seen engine.new;
+            map_before = E.map_at engine.old; map_after = E.map_at engine.new }) session page before after told transaction.old) }
+    ensures want { OnErr result (transaction.new ≡ transaction.old) }
+    ensures wanting { OnErr result (Found (E.alone engine.old) (E.free engine.old) (E.seen engine.old) (λ mid. OnlyFaults mid (E.seen engine.new))) }
+    ensures sound { IsSoundTransaction (E.seen engine.new).page_size transaction.new }
+    ensures pin { transaction.new.pin ≡ transaction.old.pin }
+    ensures stays { Stays E.seen E.live E.map_at E.begins E.free E.alone E.loans engine.old [] engine.new [] }
+{
+    match first_byte(buf, engine, &transaction.pin, page)? {
+        None => Ok(Told::Disk),
+        Some(byte) => {
+            note_fetch(alloc, transaction, page)?;
+            Ok(Told::Byte(byte))
+        }
+    }
+}
+
+// Reads a page. The error is want of memory, and leaves the transaction as it was.
+fn read_open<E: Engine<Raw>>(
+    alloc: Global,
+    buf: &mut Vec<u8>,
+    engine: &mut E,
+    transaction: &mut Transaction,
+    page: u32,
+) -> Result<Told, AllocError>
+    requires range { (2 ≤ page) × (page ≤ 16) }
+    requires sound { IsSoundTransaction (E.seen engine.old).page_size transaction.old }
+    requires live { IsLive E.live engine.old transaction.old.pin }
+    ensures acts { IfOk result (λ told. (before after : List Seat) (session ordinal : ℕ)
+        → Moves before session ordinal (state.Open transaction.old) (state.Open transaction.new) after
+        → ReadOpen (record {
+            alone = E.alone engine.old; free = E.free engine.old; old = E.seen engine.old; new = E.seen engine.new;
+            map_before = E.map_at engine.old; map_after = E.map_at engine.new }) session page before after told transaction.old
+            (image_of transaction.old.changed page)) }
+    ensures want { OnErr result (transaction.new ≡ transaction.old) }
+    ensures wanting { OnErr result (Found (E.alone engine.old) (E.free engine.old) (E.seen engine.old) (λ mid. OnlyFaults mid (E.seen engine.new))) }
+    ensures sound { IsSoundTransaction (E.seen engine.new).page_size transaction.new }
+    ensures pin { transaction.new.pin ≡ transaction.old.pin }
+    ensures stays { Stays E.seen E.live E.map_at E.begins E.free E.alone E.loans engine.old [] engine.new [] }
+{
+    let page_size = engine.page_size();
+    match own_byte(transaction.changed.as_slice(), page, page_size) {
+        Some(byte) => {
+            note_own(alloc, transaction, page)?;
+            Ok(Told::Byte(byte))
+        }
+        None => fetch_open(alloc, buf, engine, transaction, page),
+    }
+}
+
+// Commits a transaction. The error is want of memory, and leaves it as it was.
+fn commit_open<E: Engine<Raw>>(
+    alloc: Global,
+    engine: &mut E,
+    transaction: Transaction,
+    who: Who,
+) -> (State, Result<Told, AllocError>)
+    requires sound { IsSoundTransaction (E.seen engine.old).page_size transaction }
+    requires live { IsLive E.live engine.old transaction.pin }
+    ensures acts { IfOk result.1 (λ told. (before after : List Seat)
+        → Moves before who.session who.ordinal (state.Open transaction) result.0 after
+        → CommitOpen (record {
+            alone = E.alone engine.old; free = E.free engine.old; old = E.seen engine.old; new = E.seen engine.new;
+            map_before = E.map_at engine.old; map_after = E.map_at engine.new }) who.session before after transaction told) }
+    ensures want { OnErr result.1 (result.0 ≡ state.Open transaction) }
+    ensures wanting { OnErr result.1 (Found (E.alone engine.old) (E.free engine.old) (E.seen engine.old) (λ mid. OnlyFaults mid (E.seen engine.new))) }
+    ensures sound { IsSoundState (E.seen engine.new).page_size result.0 }
+    ensures stays { Stays E.seen E.live E.map_at E.begins E.free E.alone E.loans engine.old (transaction.pin ∷ []) engine.new (pins_in result.0) }
+{
+    let Transaction { pin, reads, changed, said, wrote } = transaction;
+    let prepared = Prepared {
+        mode: Mode::Concurrent,
+        snap: pin.n,
+        base: pin.size,
+        reads,
+        changed,
+        fresh: Items::new(alloc),
+        freed: Items::new(alloc),
+        tail: false,
+        wrote,
+        said,
+        of: PhantomData,
+    };
+    match engine.commit(&pin, prepared, who) {
+        Ok(receipt) => {
+            engine.end(pin);
+            (State::Out, Ok(Told::Done(receipt)))
+        }
+        Err((why, prepared)) => after_refusal(pin, why, prepared),
+    }
+}
+
+// How a session stands after its COMMIT was refused, and what it is told.
+fn after_refusal(
+    pin: Pin,
+    why: CommitFault,
+    prepared: Prepared<Raw>,
+) -> (State, Result<Told, AllocError>)
+    requires { (page : ℕ) → why ≢ fault.Corrupt page }
+    ensures { IsRefused why (record { pin = pin; reads = prepared.reads; changed = prepared.changed; said = prepared.said; wrote = prepared.wrote }) result.0 result.1 }
+{
+    match why {
+        CommitFault::BusySnapshot { page, commit } => {
+            (State::Refused(pin), Ok(Told::Busy { page, commit }))
+        }
+        CommitFault::Stopped { log, at } => (back(pin, prepared), Ok(Told::Stopped { log, at })),
+        CommitFault::SizeLimit { pages, .. } => (back(pin, prepared), Ok(Told::Size { pages })),
+        CommitFault::Disk => (back(pin, prepared), Ok(Told::Disk)),
+        CommitFault::Memory => (back(pin, prepared), Err(AllocError)),
+        CommitFault::Corrupt { .. } => unreachable!(),
+    }
+}
+
+// The transaction that was handed in.
+fn back(pin: Pin, prepared: Prepared<Raw>) -> State
+    ensures { result ≡ state.Open (record { pin = pin; reads = prepared.reads; changed = prepared.changed; said = prepared.said; wrote = prepared.wrote }) }
+{
+    State::Open(Transaction {
+        pin,
+        reads: prepared.reads,
+        changed: prepared.changed,
+        said: prepared.said,
+        wrote: prepared.wrote,
+    })
+}
+
+// Does what is asked of an open transaction. The error is want of memory, and leaves it as it was.
+fn turn_open<E: Engine<Raw>>(
+    alloc: Global,
+    buf: &mut Vec<u8>,
+    engine: &mut E,
+    mut transaction: Transaction,
+    who: Who,
+    deed: Deed,
+) -> (State, Result<Told, AllocError>)
+    requires range { IsInRange (act_of who.session deed) }
+    requires sound { IsSoundTransaction (E.seen engine.old).page_size transaction }
+    requires live { IsLive E.live engine.old transaction.pin }
+    ensures acts { IfOk result.1 (λ told. (before after : List Seat)
+        → Moves before who.session who.ordinal (state.Open transaction) result.0 after
+        → Acts (record {
+            alone = E.alone engine.old; free = E.free engine.old; old = E.seen engine.old; new = E.seen engine.new;
+            map_before = E.map_at engine.old; map_after = E.map_at engine.new }) before (act_of who.session deed) told after) }
+    ensures want { OnErr result.1 (result.0 ≡ state.Open transaction) }
+    ensures wanting { OnErr result.1 (Found (E.alone engine.old) (E.free engine.old) (E.seen engine.old) (λ mid. OnlyFaults mid (E.seen engine.new))) }
+    ensures sound { IsSoundState (E.seen engine.new).page_size result.0 }
+    ensures stays { Stays E.seen E.live E.map_at E.begins E.free E.alone E.loans engine.old (transaction.pin ∷ []) engine.new (pins_in result.0) }
+{
+    match deed {
+        Deed::Read { page } => {
+            let told = read_open(alloc, buf, engine, &mut transaction, page);
+            (State::Open(transaction), told)
+        }
+        Deed::Write { page, byte } => {
+            let page_size = engine.page_size();
+            let done = note_write(alloc, &mut transaction, page, byte, page_size);
+            (State::Open(transaction), done.map(|()| Told::Ok))
+        }
+        Deed::Commit => commit_open(alloc, engine, transaction, who),
+        Deed::Rollback => {
+            engine.end(transaction.pin);
+            (State::Out, Ok(Told::Ok))
+        }
+    }
+}
+
+// Does what is asked of a refused transaction.
+fn turn_refused<E: Engine<Raw>>(engine: &mut E, pin: Pin, session: u32, deed: Deed) -> (State, Told)
+    requires live { IsLive E.live engine.old pin }
+    ensures acts { (before after : List Seat) (ordinal : ℕ) → Moves before session ordinal (state.Refused pin) result.0 after
+        → Acts (record {
+            alone = E.alone engine.old; free = E.free engine.old; old = E.seen engine.old; new = E.seen engine.new;
+            map_before = E.map_at engine.old; map_after = E.map_at engine.new }) before (act_of session deed) result.1 after }
+    ensures sound { (page_size : ℕ) → IsSoundState page_size result.0 }
+    ensures stays { Stays E.seen E.live E.map_at E.begins E.free E.alone E.loans engine.old (pin ∷ []) engine.new (pins_in result.0) }
+{
+    match deed {
+        Deed::Rollback => {
+            engine.end(pin);
+            (State::Out, Told::Ok)
+        }
+        Deed::Read { .. } | Deed::Write { .. } | Deed::Commit => {
+            (State::Refused(pin), Told::MustRollBack)
+        }
+    }
+}
+
+/// Does what is asked of a session's transaction. The error is want of memory, and leaves the seat as it was.
+pub fn turn<E: Engine<Raw>>(
+    alloc: Global,
+    buf: &mut Vec<u8>,
+    engine: &mut E,
+    seat: &mut Seat,
+    deed: Deed,
+) -> Result<Told, AllocError>
+    requires range { IsInRange (act_of seat.old.session deed) }
+    requires sound { IsSoundState (E.seen engine.old).page_size seat.old.state }
+    requires live { AllLive E.live engine.old (pins_in seat.old.state) }
+    ensures acts { IfOk result (λ told. (before after : List Seat)
+        → Moves before seat.old.session seat.old.begun seat.old.state seat.new.state after
+        → Acts (record {
+            alone = E.alone engine.old; free = E.free engine.old; old = E.seen engine.old; new = E.seen engine.new;
+            map_before = E.map_at engine.old; map_after = E.map_at engine.new }) before (act_of seat.old.session deed) told after) }
+    ensures want { OnErr result (seat.new ≡ seat.old) }
+    ensures wanting { OnErr result (Found (E.alone engine.old) (E.free engine.old) (E.seen engine.old) (λ mid. OnlyFaults mid (E.seen engine.new))) }
+    ensures session { seat.new.session ≡ seat.old.session }
+    ensures begun { seat.new.begun ≡ seat.old.begun }
+    ensures sound { IsSoundState (E.seen engine.new).page_size seat.new.state }
+    ensures stays { Stays E.seen E.live E.map_at E.begins E.free E.alone E.loans engine.old (pins_in seat.old.state) engine.new (pins_in seat.new.state) }
+{
+    let who = Who {
+        session: seat.session,
+        ordinal: seat.begun,
+    };
+    match mem::replace(&mut seat.state, State::Out) {
+        State::Out => Ok(Told::NoTransaction),
+        State::Open(transaction) => {
+            let (state, told) = turn_open(alloc, buf, engine, transaction, who, deed);
+            seat.state = state;
+            told
+        }
+        State::Refused(pin) => {
+            let (state, told) = turn_refused(engine, pin, who.session, deed);
+            seat.state = state;
+            Ok(told)
+        }
+    }
+}
+
+/// Begins a transaction of a session that is out of one.
+pub fn begin_out<E: Engine<Raw>>(alloc: Global, engine: &mut E, seat: &mut Seat)
+    requires may { E.may_begin engine.old }
+    requires pages { 16 ≤ (E.seen engine.old).size }
+    requires out { seat.old.state ≡ state.Out }
+    ensures begun { HasBegun (record {
+        alone = E.alone engine.old; free = E.free engine.old; old = E.seen engine.old; new = E.seen engine.new;
+        map_before = E.map_at engine.old; map_after = E.map_at engine.new }) seat.old seat.new }
+    ensures sound { IsSoundState (E.seen engine.new).page_size seat.new.state }
+    ensures stays { Stays E.seen E.live E.map_at E.begins E.free E.alone E.loans engine.old [] engine.new (pins_in seat.new.state) }
+{
+    let pin = engine.begin();
+    seat.begun = seat.begun.saturating_add(1);
+    seat.state = State::Open(Transaction {
+        pin,
+        reads: ReadSet::new(alloc),
+        changed: Items::new(alloc),
+        said: Items::new(alloc),
+        wrote: false,
+    });
+}
+
+/// Takes one step of a checkpoint.
+pub fn step<E: Engine<Raw>>(engine: &mut E) -> Told
+    ensures acts { StepActs (record {
+        alone = E.alone engine.old; free = E.free engine.old; old = E.seen engine.old; new = E.seen engine.new;
+        map_before = E.map_at engine.old; map_after = E.map_at engine.new }) result }
+    ensures stays { Stays E.seen E.live E.map_at E.begins E.free E.alone E.loans engine.old [] engine.new [] }
+{
+    match checkpoint(engine) {
+        Ok(answer) => Told::Ckpt(answer),
+        Err(_) => Told::Disk,
+    }
+}
+
+/// Says how the logs stand.
+pub fn logs<E: Engine<Raw>>(engine: &mut E) -> Told
+    ensures acts { Found (E.alone engine.old) (E.free engine.old) (E.seen engine.old)
+        (λ mid. (result ≡ reply.Logs (told_logs mid.logs)) × (E.seen engine.new ≡ mid)) }
+    ensures stays { Stays E.seen E.live E.map_at E.begins E.free E.alone E.loans engine.old [] engine.new [] }
+{
+    Told::Logs(engine.logs())
+}
+
+/// Begins a transaction of a session that has acted before.
+pub fn begin_again<E: Engine<Raw>>(alloc: Global, engine: &mut E, seat: &mut Seat) -> Told
+    requires may { E.may_begin engine.old }
+    requires pages { 16 ≤ (E.seen engine.old).size }
+    requires sound { IsSoundState (E.seen engine.old).page_size seat.old.state }
+    ensures begun { IsBegun (record {
+        alone = E.alone engine.old; free = E.free engine.old; old = E.seen engine.old; new = E.seen engine.new;
+        map_before = E.map_at engine.old; map_after = E.map_at engine.new }) seat.old seat.new result seat.old.state }
+    ensures sound { IsSoundState (E.seen engine.new).page_size seat.new.state }
+    ensures stays { Stays E.seen E.live E.map_at E.begins E.free E.alone E.loans engine.old (pins_in seat.old.state) engine.new (pins_in seat.new.state) }
+{
+    match &seat.state {
+        State::Out => {
+            begin_out(alloc, engine, seat);
+            Told::Ok
+        }
+        State::Open(_) => Told::InTransaction,
+        State::Refused(_) => Told::MustRollBack,
+    }
+}
+
+/// Takes steps of a checkpoint until one copies no page.
+pub fn copy<E: Engine<Raw>>(engine: &mut E) -> Told
+    requires { E.free engine.old }
+    ensures acts { CopyActs (record {
+        alone = E.alone engine.old; free = E.free engine.old; old = E.seen engine.old; new = E.seen engine.new;
+        map_before = E.map_at engine.old; map_after = E.map_at engine.new }) result }
+    ensures stays { Stays E.seen E.live E.map_at E.begins E.free E.alone E.loans engine.old [] engine.new [] }
+{
+    let mut last = 0;
+    loop {
+        match checkpoint(engine) {
+            Err(_) => return Told::Disk,
+            Ok(answer) => match copied_page(answer) {
+                None => return Told::Ckpt(answer),
+                Some(page) => {
+                    prove!(last < page);
+                    last = page;
+                }
+            },
+        }
+    }
+}
+
+// Takes one step of a checkpoint.
+fn checkpoint<E: Engine<Raw>>(engine: &mut E) -> Result<Ckpt, Failed>
+    ensures answer { MatchResult result
+        (λ done. Found (E.alone engine.old) (E.free engine.old) (E.seen engine.old) (λ mid. Checkpoints mid done (E.seen engine.new)))
+        (λ _. Found (E.alone engine.old) (E.free engine.old) (E.seen engine.old) (λ mid. Fails mid (E.seen engine.new))) }
+    ensures stays { Stays E.seen E.live E.map_at E.begins E.free E.alone E.loans engine.old [] engine.new [] }
+{
+    engine.ckpt()
+}
+
+// The page that a step copied.
+fn copied_page(answer: Ckpt) -> Option<u32>
+    ensures { MatchOption result (IsLast answer) (λ page. answer ≡ Ckpt.Copied page) }
+{
+    match answer {
+        Ckpt::Copied(page) => Some(page),
+        Ckpt::Finished | Ckpt::Idle | Ckpt::Held(_) => None,
+    }
+}

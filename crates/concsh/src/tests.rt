@@ -1,0 +1,187 @@
+use crate::top::top;
+use disk_face::Word;
+use disk_mem::{FixedSalts, MemDisk, MemSink, MemSource};
+use std::alloc::{AllocError, Global};
+use std::test::Fail;
+
+/// One run, and what it has to come to.
+struct Row {
+    /// The word of the command line.
+    word: &'static [u8],
+    script: &'static [u8],
+    /// The most bytes that a call of the source gives, and that one of the sink takes.
+    piece: usize,
+    /// Which call of the source fails, from 1.
+    source_fails: Option<u64>,
+    /// Which call of the sink fails, from 1.
+    sink_fails: Option<u64>,
+    status: u8,
+    written: &'static [u8],
+}
+
+/// Runs with ample memory, and gives the status and what was written.
+fn run(
+    alloc: Global,
+    word: &[u8],
+    script: Vec<u8>,
+    piece: usize,
+    source_fails: Option<u64>,
+    sink_fails: Option<u64>,
+) -> Result<(u8, MemSink), AllocError> {
+    let mut words = Vec::new(alloc);
+    words.push(Word::of(alloc, word)?)?;
+    let mut disk = MemDisk::new(
+        alloc,
+        Vec::new(alloc),
+        Vec::new(alloc),
+        Vec::new(alloc),
+        Vec::new(alloc),
+    );
+    let mut source = MemSource::new(script, piece.max(1), source_fails);
+    let mut sink = MemSink::new(alloc, piece.max(1), sink_fails);
+    let mut salts = FixedSalts::new(Vec::new(alloc));
+    let status = top(
+        alloc,
+        &words,
+        &mut disk,
+        &mut source,
+        &mut sink,
+        &mut salts,
+    );
+    Ok((status, sink))
+}
+
+/// A run of `pages` that meets no fault.
+fn plain(script: &'static [u8], status: u8, written: &'static [u8]) -> Row {
+    Row {
+        word: b"pages",
+        script,
+        piece: 4096,
+        source_fails: None,
+        sink_fails: None,
+        status,
+        written,
+    }
+}
+
+const SNAPSHOTS: &[u8] = b"1: BEGIN\n2: BEGIN\n1: READ 2\n2: WRITE 2 7\n2: COMMIT\n1: WRITE 3 9\n1: READ 2\n1: COMMIT\n1: READ 2\n1: ROLLBACK\n1: BEGIN\n1: READ 2\n1: READ 3\n";
+
+const SNAPSHOTS_REPLIES: &[u8] = b"1: ok\n2: ok\n1: byte 0\n2: ok\n2: commit 1\n1: ok\n1: byte 0\n1: error busy snapshot page 2 commit 1\n1: error must roll back\n1: ok\n1: ok\n1: byte 7\n1: byte 0\n";
+
+#[test]
+fn scripts_and_faults(rt: HostRuntime) -> Result<(), Fail> {
+    let rows = [
+        plain(b"", 0, b""),
+        plain(b"1: READ 17", 1, b"script refused at line 1\n"),
+        plain(b"2: WRITE 2 7", 0, b"2: error no transaction\n"),
+        plain(SNAPSHOTS, 0, SNAPSHOTS_REPLIES),
+        // One byte a call, on both sides.
+        Row {
+            piece: 1,
+            ..plain(SNAPSHOTS, 0, SNAPSHOTS_REPLIES)
+        },
+        // Empty lines and comments get no reply, but they count. A CR before the LF is dropped, and one at the end isn't.
+        plain(
+            b"# all of it\r\n\r\n1: BEGIN\r\n\n1: READ 2\r",
+            1,
+            b"1: ok\nscript refused at line 5\n",
+        ),
+        plain(b"0: LOGS\n0: CHECKPOINT\n0: STEP\n", 0, b"0: log 1 frames 0 other done\n0: idle\n0: idle\n"),
+        plain(b"1: BEGIN\n#\xff\n1: READ 2\n", 1, b"1: ok\nscript refused at line 2\n"),
+        Row {
+            word: b"frob",
+            ..plain(SNAPSHOTS, 2, b"words refused\n")
+        },
+        Row {
+            word: b"frob",
+            sink_fails: Some(1),
+            ..plain(SNAPSHOTS, 4, b"")
+        },
+        // The source fails at once, in the middle of a line, and where the script is all given.
+        Row {
+            source_fails: Some(1),
+            ..plain(SNAPSHOTS, 3, b"source failed\n")
+        },
+        Row {
+            piece: 12,
+            source_fails: Some(2),
+            ..plain(b"1: BEGIN\n2: BEGIN\n", 3, b"1: ok\nsource failed\n")
+        },
+        Row {
+            source_fails: Some(2),
+            ..plain(b"1: BEGIN\n2: BEGIN", 3, b"1: ok\nsource failed\n")
+        },
+        // The sink fails at once, in the middle of a reply, and in the last line of a refused script.
+        Row {
+            sink_fails: Some(1),
+            ..plain(SNAPSHOTS, 4, b"")
+        },
+        Row {
+            piece: 4,
+            sink_fails: Some(4),
+            ..plain(b"1: BEGIN\n2: BEGIN\n", 4, b"1: ok\n2: o")
+        },
+        Row {
+            piece: 6,
+            sink_fails: Some(2),
+            ..plain(b"17: BEGIN\n", 4, b"script")
+        },
+        // Both fail: the last line can't be written.
+        Row {
+            source_fails: Some(1),
+            sink_fails: Some(1),
+            ..plain(SNAPSHOTS, 4, b"")
+        },
+    ];
+    for row in rows {
+        let script = row.script.to_vec(rt.alloc())?;
+        let (status, sink) = run(
+            rt.alloc(),
+            row.word,
+            script,
+            row.piece,
+            row.source_fails,
+            row.sink_fails,
+        )?;
+        assert_eq!(rt; sink.written(), row.written);
+        assert_eq!(rt; status, row.status);
+    }
+    Ok(())
+}
+
+/// A comment with so many bytes, and its LF.
+fn comment(alloc: Global, count: usize) -> Result<Vec<u8>, AllocError> {
+    let mut line = vec![in alloc; b'#'; count]?;
+    line.push(b'\n')?;
+    Ok(line)
+}
+
+#[test]
+fn limits(rt: HostRuntime) -> Result<(), Fail> {
+    let longest = comment(rt.alloc(), 65_536)?;
+    let (status, sink) = run(rt.alloc(), b"pages", longest, 65_536, None, None)?;
+    assert_eq!(rt; sink.written(), b"".as_slice());
+    assert_eq!(rt; status, 0);
+
+    let longer = comment(rt.alloc(), 65_537)?;
+    let (status, sink) = run(rt.alloc(), b"pages", longer, 65_536, None, None)?;
+    assert_eq!(rt; sink.written(), b"script refused at line 1\n".as_slice());
+    assert_eq!(rt; status, 1);
+
+    // 256 lines of 65,536 bytes, their ends included.
+    let line = comment(rt.alloc(), 65_535)?;
+    for (rest, expected, written) in [
+        (b"".as_slice(), 0, b"".as_slice()),
+        (b"\n", 1, b"script refused at line 257\n"),
+    ] {
+        let mut script = Vec::new(rt.alloc());
+        for _ in 0..256 {
+            script.extend_from_slice(&line)?;
+        }
+        script.extend_from_slice(rest)?;
+        let (status, sink) = run(rt.alloc(), b"pages", script, 65_536, None, None)?;
+        assert_eq!(rt; sink.written(), written);
+        assert_eq!(rt; status, expected);
+    }
+    Ok(())
+}

@@ -1,0 +1,3 @@
+pub mod Accept
+pub mod Checksum
+pub mod LogHeader

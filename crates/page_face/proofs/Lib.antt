@@ -1,0 +1,2 @@
+mod ReadSets
+mod Shelf

@@ -1,0 +1,4 @@
+pub mod Pins
+pub mod Prepared
+pub mod Fetch
+pub mod Pages

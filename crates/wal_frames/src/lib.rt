@@ -1,0 +1,17 @@
+//! The text of a log: its checksum and its header.
+//!
+//! The form is that of SQLite's page "Database File Format" under "The Write-Ahead Log". The version number, and that the
+//! checkpoint sequence number holds a generation, are this project's own.
+#![tactic(auto)]
+
+mod header;
+mod read;
+mod sum;
+#[cfg(test)]
+mod tests;
+mod write;
+
+pub use header::{Front, LogHeader};
+pub use read::read_log_header;
+pub use sum::{Sum, sum_step};
+pub use write::write_log_header;
