@@ -1,0 +1,11 @@
+-- Counts of faults: how often something outside the program has failed.
+use Rattle.std.specs.Prelude.{◌≡◌, ℕ, ◌<◌, ◌≤◌, ◌-◌, ◌^◌, ◌⊎◌}
+
+-- the last value of a count, at which it stays
+abbrev pub last_count : ℕ
+last_count = 2 ^ 64 - 1
+
+-- The count rose: it is greater than before, or it stands at its last value.
+pub record Rose (before after : ℕ) : Type 0 where
+  pub later : before ≤ after
+  pub counted : (before < after) ⊎ (after ≡ last_count)

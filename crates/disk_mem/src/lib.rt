@@ -1,0 +1,20 @@
+//! What lies outside the program, in memory: for tests, and for proofs that a crash leaves what it may leave.
+#![tactic(auto)]
+
+mod crash;
+mod disk;
+mod file;
+mod fuse;
+mod plan;
+mod sink;
+mod source;
+mod store;
+#[cfg(test)]
+mod tests;
+mod words;
+
+pub use disk::MemDisk;
+pub use plan::{Call, Fail};
+pub use sink::MemSink;
+pub use source::MemSource;
+pub use words::FixedSalts;
