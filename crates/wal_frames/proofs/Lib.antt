@@ -1,2 +1,4 @@
+mod FrameParts
 mod Fronts
+mod Pieces
 mod Written

@@ -6,6 +6,7 @@
 
 mod header;
 mod read;
+mod scan;
 mod sum;
 #[cfg(test)]
 mod tests;

@@ -1,0 +1,113 @@
+ghost use Rattle.std.specs.Prelude.{◌≡◌, ◌⊎◌, ◌+◌, ◌%◌, ◌<◌, ◌^◌, ◌≤◌, true, List, ℕ, length, take, drop, Err, IfOk, IfSome, OnErr, IsTrue, ◌↔◌};
+ghost use Rattle.disk_face.specs.Faults.{Rose};
+ghost use Rattle.disk_face.specs.Files.{content};
+ghost use Rattle.disk_face.specs.Steps.{reads};
+ghost use Rattle.disk_face.specs.Told.{IsSize, IsInside};
+ghost use Rattle.log_spec.specs.Checksum.{checksum};
+ghost use Rattle.page_spec.specs.Header.{is_page_size};
+ghost use Rattle.wal_frames.specs.Front.{words_of};
+ghost use Rattle.wal_frames.specs.Scan.{FitsHead, TellsOf};
+
+use crate::header::LogHeader;
+use crate::sum::{Sum, sum_step};
+use be_fields::get_u32;
+use disk_face::{Disk, Failed, File};
+
+/// The checksum after a page's bytes of a file, going on from another. They are read in pieces.
+fn sum_page<D: Disk>(
+    disk: &mut D,
+    file: File,
+    at: u64,
+    page_size: usize,
+    big: bool,
+    sum: Sum,
+) -> Result<Sum, Failed>
+    requires attached { D.attached disk.old ≡ true }
+    requires inside { IsInside (D.told disk.old) file at page_size }
+    requires whole { page_size % 512 ≡ 0 }
+    requires short { at + page_size < 2 ^ 64 }
+    ensures sum { IfOk result (λ after. IfSome (D.told disk.old)
+        (λ told. words_of after ≡ checksum big (words_of sum) (take page_size (drop at (content (reads told) file))))) }
+    ensures cause { OnErr result (Rose (D.faults disk.old) (D.faults disk.new)) }
+    ensures faults { D.faults disk.old ≤ D.faults disk.new }
+    ensures loans { D.loans disk.new ≡ D.loans disk.old }
+    ensures journal_answer { D.journal_answer disk.new ≡ D.journal_answer disk.old }
+    ensures attached { D.attached disk.new ≡ D.attached disk.old }
+    ensures told { D.told disk.new ≡ D.told disk.old }
+{
+    let mut piece = [0u8; 512];
+    let mut after = sum;
+    let mut done = 0;
+    while done < page_size {
+        disk.read_at(file, at + done as u64, &mut piece)?;
+        after = sum_step(after, big, &piece);
+        done += 512;
+    }
+    Ok(after)
+}
+
+/// What a valid frame tells.
+#[derive(Clone, Copy)]
+struct FrameTold {
+    /// The number of the page that it holds.
+    page: u32,
+    /// The size of the database in pages after the commit that it ends, 0 where it ends none.
+    size: u32,
+    /// The checksum after it.
+    sum: Sum,
+}
+
+/// Whether the header of a frame has a page number, the salts of the log's header, and this checksum.
+fn fits_head(head: &[u8], header: &LogHeader, after: Sum) -> bool
+    requires { 24 ≤ length head.now }
+    ensures { IsTrue result ↔ FitsHead head.now header.now (words_of after) }
+{
+    get_u32(head, 0) != 0
+        && get_u32(head, 8) == header.salt1
+        && get_u32(head, 12) == header.salt2
+        && get_u32(head, 16) == after.s0
+        && get_u32(head, 20) == after.s1
+}
+
+/// What the frame at a place of a file tells, where the frames before it left this checksum. None where it isn't valid.
+fn read_frame<D: Disk>(
+    disk: &mut D,
+    file: File,
+    at: u64,
+    header: &LogHeader,
+    sum: Sum,
+) -> Result<Option<FrameTold>, Failed>
+    requires attached { D.attached disk.old ≡ true }
+    requires size { IsTrue (is_page_size header.now.page_size) }
+    requires inside { IsInside (D.told disk.old) file at (24 + header.now.page_size) }
+    requires short { at + (24 + header.now.page_size) < 2 ^ 64 }
+    ensures frame { IfOk result (λ found. IfSome (D.told disk.old)
+        (λ told. TellsOf header.now (words_of sum) (take (24 + header.now.page_size) (drop at (content (reads told) file))) found)) }
+    ensures cause { OnErr result (Rose (D.faults disk.old) (D.faults disk.new)) }
+    ensures faults { D.faults disk.old ≤ D.faults disk.new }
+    ensures loans { D.loans disk.new ≡ D.loans disk.old }
+    ensures journal_answer { D.journal_answer disk.new ≡ D.journal_answer disk.old }
+    ensures attached { D.attached disk.new ≡ D.attached disk.old }
+    ensures told { D.told disk.new ≡ D.told disk.old }
+{
+    let mut head = [0u8; 24];
+    disk.read_at(file, at, &mut head)?;
+    let after = sum_step(sum, header.big, &head[..8]);
+    let after = sum_page(
+        disk,
+        file,
+        at + 24,
+        header.page_size as usize,
+        header.big,
+        after,
+    )?;
+    if fits_head(&head, header, after) {
+        Ok(Some(FrameTold {
+            page: get_u32(&head, 0),
+            size: get_u32(&head, 4),
+            sum: after,
+        }))
+    } else {
+        Ok(None)
+    }
+}
