@@ -1,6 +1,6 @@
 -- A frame, from its header and the checksum over its page.
-use Rattle.std.proofs.Common.{◌≡◌, ◌≢◌, ℕ, ◌+◌, ◌%◌, ◌≤◌, ◌==◌, Bool, true, false, List, length, take, drop, refl, sym, ◌∙◌, ap, arith, if◌then◌else◌, length-drop, get_or-take}
-use Rattle.std.proofs.lemmas.List.{length-take-le, take-take, drop-take}
+use Rattle.std.proofs.Common.{◌≡◌, ◌≢◌, ℕ, ◌+◌, ◌%◌, ◌≤◌, ◌<◌, ◌==◌, Bool, true, false, List, length, take, drop, refl, sym, ◌∙◌, ap, arith, if◌then◌else◌, length-drop, get_or-take}
+use Rattle.std.proofs.lemmas.List.{length-take, length-take-le, take-take, drop-take}
 use Rattle.std.proofs.Math.Seq.{drop-drop}
 use Rattle.std.proofs.lemmas.Bool.Decides.{nat_tests}
 use Rattle.page_spec.specs.Bytes.{u32_at}
@@ -15,6 +15,10 @@ use Rattle.wal_frames.specs.declared.header.LogHeader.{LogHeader}
 pub page_size_whole : (size : ℕ) → is_page_size size ≡ true → size % 512 ≡ 0
 unfolding is_page_size
 page_size_whole size h = grind (arith, nat_tests)
+
+pub page_size_bounds : (size : ℕ) → is_page_size size ≡ true → (512 ≤ size) × (size ≤ 65536)
+unfolding is_page_size
+page_size_bounds size h = (grind (arith, nat_tests), grind (arith, nat_tests))
 
 u32_at-take : (n : ℕ) (bytes : List ℕ) (at : ℕ) → at + 4 ≤ n → u32_at (take n bytes) at ≡ u32_at bytes at
 unfolding u32_at
@@ -97,3 +101,18 @@ head_from_valid content head at header sum middle after r v =
       first_word = number 16 (omega arith) ∙ ap (λ (words : Words). words.0) stored;
       second_word = number 20 (omega arith) ∙ ap (λ (words : Words). words.1) stored;
     }
+
+-- no valid frame stands where the bytes end first
+pub no_room : (content frame : List ℕ) (at : ℕ) (header : LogHeader) (sum : Words) → length content < at + (24 + header.page_size)
+    → take (length frame) (drop at content) ≡ frame → IsValidFrame (fields_for header) sum frame → ⊥
+no_room content frame at header sum short there valid =
+    let long : length (take (length frame) (drop at content)) ≡ length frame = ap (λ (bytes : List ℕ). length bytes) there in
+    let some : length frame ≡ 24 + header.page_size = valid.whole in
+    omega (arith, long, some, length-take (length frame) (drop at content), length-drop at content)
+
+-- no valid frame stands where the bytes of one are none
+pub not_there : (content frame : List ℕ) (at : ℕ) (header : LogHeader) (sum : Words) → (IsValidFrame (fields_for header) sum (frame_at content at header) → ⊥)
+    → take (length frame) (drop at content) ≡ frame → IsValidFrame (fields_for header) sum frame → ⊥
+not_there content frame at header sum none there valid =
+    let same : frame_at content at header ≡ frame = ap (λ (n : ℕ). take n (drop at content)) (sym valid.whole) ∙ there in
+    none (rw same valid)

@@ -1,5 +1,5 @@
 -- What is told of a frame, in the types of this crate.
-use Rattle.std.specs.Prelude.{◌≡◌, ◌≢◌, ℕ, List, Option, MatchOption}
+use Rattle.std.specs.Prelude.{◌≡◌, ◌≢◌, ℕ, ◌+◌, List, length, take, drop, Option, MatchOption}
 use Rattle.page_spec.specs.Bytes.{u32_at}
 use Rattle.log_spec.specs.Checksum.{Sum as Words}
 use Rattle.log_spec.specs.LogHeader.{LogFields}
@@ -26,3 +26,9 @@ pub record TellsFrame (header : LogHeader) (sum : Words) (frame : Frame) (told :
 -- what is told of the bytes of a frame: nothing where they are no valid frame
 abbrev pub TellsOf : LogHeader → Words → Frame → Option FrameTold → Type 0
 TellsOf header sum frame found = MatchOption found (IsValidFrame (fields_for header) sum frame → ⊥) (λ told. TellsFrame header sum frame told)
+
+-- what is told of the bytes from a place on: nothing where no valid frame stands there
+abbrev pub NextOf : LogHeader → Words → List ℕ → ℕ → Option FrameTold → Type 0
+NextOf header sum bytes at found = MatchOption found
+    ((frame : Frame) → take (length frame) (drop at bytes) ≡ frame → IsValidFrame (fields_for header) sum frame → ⊥)
+    (λ told. TellsFrame header sum (take (24 + header.page_size) (drop at bytes)) told)

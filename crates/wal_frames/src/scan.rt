@@ -6,7 +6,9 @@ ghost use Rattle.disk_face.specs.Told.{IsSize, IsInside};
 ghost use Rattle.log_spec.specs.Checksum.{checksum};
 ghost use Rattle.page_spec.specs.Header.{is_page_size};
 ghost use Rattle.wal_frames.specs.Front.{words_of};
-ghost use Rattle.wal_frames.specs.Scan.{FitsHead, TellsOf};
+ghost use Rattle.wal_frames.specs.Scan.{FitsHead, TellsOf, NextOf};
+
+use thiserror::Error;
 
 use crate::header::LogHeader;
 use crate::sum::{Sum, sum_step};
@@ -110,4 +112,41 @@ fn read_frame<D: Disk>(
     } else {
         Ok(None)
     }
+}
+
+/// What the next frame tells. None where the file has no room for one there, or the frame isn't valid.
+fn next_frame<D: Disk>(disk: &mut D, file: File, size: u64, at: u64, header: &LogHeader, sum: Sum) -> Result<Option<FrameTold>, ScanFault>
+    requires attached { D.attached disk.old ≡ true }
+    requires legal { IsTrue (is_page_size header.now.page_size) }
+    requires sized { IsSize (D.told disk.old) file size }
+    requires within { at ≤ size }
+    ensures frame { IfOk result (λ found. IfSome (D.told disk.old)
+        (λ told. NextOf header.now (words_of sum) (content (reads told) file) at found)) }
+    ensures room { IfOk result (λ found. IfSome found (λ frame. at + (24 + header.now.page_size) ≤ size)) }
+    ensures cause { result ≡ Err ScanFault.Disk → Rose (D.faults disk.old) (D.faults disk.new) }
+    ensures disk_only { result ≡ Err ScanFault.Memory → ⊥ }
+    ensures faults { D.faults disk.old ≤ D.faults disk.new }
+    ensures loans { D.loans disk.new ≡ D.loans disk.old }
+    ensures journal_answer { D.journal_answer disk.new ≡ D.journal_answer disk.old }
+    ensures attached { D.attached disk.new ≡ D.attached disk.old }
+    ensures told { D.told disk.new ≡ D.told disk.old }
+{
+    if size - at < 24 + u64::from(header.page_size) {
+        return Ok(None);
+    }
+    match read_frame(disk, file, at, header, sum) {
+        Ok(found) => Ok(found),
+        Err(Failed) => Err(ScanFault::Disk),
+    }
+}
+
+/// Why the accepted frames of a log can't be told.
+#[derive(Clone, Copy, Debug, PartialEq, Eq, Error)]
+pub enum ScanFault {
+    /// The disk failed, and its count of faults rose.
+    #[error("disk failed")]
+    Disk,
+    /// There was no memory for the page numbers.
+    #[error("out of memory")]
+    Memory,
 }
