@@ -1,4 +1,5 @@
 mod FrameParts
 mod Fronts
+mod Knows
 mod Pieces
 mod Written

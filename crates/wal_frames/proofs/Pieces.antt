@@ -26,3 +26,7 @@ piece_summed big sum after next content piece at done long whole within was read
     let there : piece ≡ take 512 (drop done row) = read ∙ ap (λ (n : ℕ). take n (drop (at + done) content)) long ∙ ap (take 512) (sym (drop-drop done at content)) in
     is ∙ ap (λ (s : Sum). checksum big s piece) was ∙ sym (checksum-append big sum (take done row) piece (omega arith))
     ∙ ap (λ (xs : List ℕ). checksum big sum (take done row ++ xs)) there ∙ ap (checksum big sum) (sym (take-add done 512 row))
+
+pub if_some_2 : {A : Type 0} (P Q R : A → Type 0) → ((x : A) → P x → Q x → R x) → (o : Option A) → IfSome o P → IfSome o Q → IfSome o R
+if_some_2 P Q R all None p q = tt
+if_some_2 P Q R all (Some x) p q = all x p q

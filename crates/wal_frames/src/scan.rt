@@ -1,4 +1,4 @@
-ghost use Rattle.std.specs.Prelude.{◌≡◌, ◌⊎◌, ◌+◌, ◌%◌, ◌<◌, ◌^◌, ◌≤◌, true, List, ℕ, length, take, drop, Err, IfOk, IfSome, OnErr, IsTrue, ◌↔◌};
+ghost use Rattle.std.specs.Prelude.{◌≡◌, ◌⊎◌, ◌+◌, ◌%◌, ◌<◌, ◌^◌, ◌≤◌, true, List, ℕ, length, take, drop, Err, IfOk, IfSome, IfErr, OnOk, OnErr, [], ◌∷◌, ◌++◌, IsTrue, ◌↔◌};
 ghost use Rattle.disk_face.specs.Faults.{Rose};
 ghost use Rattle.disk_face.specs.Files.{content};
 ghost use Rattle.disk_face.specs.Steps.{reads};
@@ -7,11 +7,14 @@ ghost use Rattle.log_spec.specs.Checksum.{checksum};
 ghost use Rattle.page_spec.specs.Header.{is_page_size};
 ghost use Rattle.wal_frames.specs.Front.{words_of};
 ghost use Rattle.wal_frames.specs.Scan.{FitsHead, TellsOf, NextOf};
+ghost use Rattle.wal_frames.specs.Found.{FindsFrames};
 
 use thiserror::Error;
 
-use crate::header::LogHeader;
+use crate::header::{Front, LogHeader};
 use crate::sum::{Sum, sum_step};
+use std::alloc::Global;
+
 use be_fields::get_u32;
 use disk_face::{Disk, Failed, File};
 
@@ -149,4 +152,70 @@ pub enum ScanFault {
     /// There was no memory for the page numbers.
     #[error("out of memory")]
     Memory,
+}
+
+/// What is accepted of a log.
+#[derive(Debug, Drop)]
+pub struct Accepted {
+    /// What the log begins with.
+    pub front: Front,
+    /// The page numbers of the accepted frames, in order.
+    pub pages: Vec<u32>,
+    /// The size of the database in pages after the last accepted frame, 0 where there is none.
+    pub size: u32,
+    /// The checksum after the last accepted frame. Where there is none it is that of the header, or 0, 0 without a header of
+    /// ours.
+    pub sum: Sum,
+}
+
+/// Appends a page number.
+fn add_page(pages: &mut Vec<u32>, page: u32) -> Result<(), ScanFault>
+    ensures ok { OnOk result (pages.new.items ≡ pages.old.items ++ page ∷ []) }
+    ensures memory { IfErr result (λ fault. fault ≡ ScanFault.Memory) }
+{
+    match pages.push(page) {
+        Ok(()) => Ok(()),
+        Err(_) => Err(ScanFault::Memory),
+    }
+}
+
+/// Finds the frames after a header of ours that are accepted. Each is read once, in pieces.
+fn scan<D: Disk>(alloc: Global, disk: &mut D, file: File, size: u64, header: &LogHeader) -> Result<Accepted, ScanFault>
+    requires attached { D.attached disk.old ≡ true }
+    requires legal { IsTrue (is_page_size header.now.page_size) }
+    requires sized { IsSize (D.told disk.old) file size }
+    requires long { 32 ≤ size }
+    ensures front { IfOk result (λ found. found.front ≡ Front.Ours header.now) }
+    ensures found { IfOk result (λ found. IfSome (D.told disk.old)
+        (λ told. FindsFrames header.now (content (reads told) file) found)) }
+    ensures cause { result ≡ Err ScanFault.Disk → Rose (D.faults disk.old) (D.faults disk.new) }
+    ensures faults { D.faults disk.old ≤ D.faults disk.new }
+    ensures loans { D.loans disk.new ≡ D.loans disk.old }
+    ensures journal_answer { D.journal_answer disk.new ≡ D.journal_answer disk.old }
+    ensures attached { D.attached disk.new ≡ D.attached disk.old }
+    ensures told { D.told disk.new ≡ D.told disk.old }
+{
+    let mut pages = Vec::new(alloc);
+    let mut kept = 0;
+    let mut kept_size = 0;
+    let mut kept_sum = header.sum;
+    let mut at = 32;
+    let mut sum = header.sum;
+    while let Some(frame) = next_frame(disk, file, size, at, header, sum)? {
+        add_page(&mut pages, frame.page)?;
+        at += 24 + u64::from(header.page_size);
+        sum = frame.sum;
+        if frame.size != 0 {
+            kept = pages.len();
+            kept_size = frame.size;
+            kept_sum = sum;
+        }
+    }
+    pages.truncate(kept);
+    Ok(Accepted {
+        front: Front::Ours(*header),
+        pages,
+        size: kept_size,
+        sum: kept_sum,
+    })
 }
