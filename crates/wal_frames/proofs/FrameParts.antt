@@ -20,7 +20,7 @@ pub page_size_bounds : (size : ℕ) → is_page_size size ≡ true → (512 ≤ 
 unfolding is_page_size
 page_size_bounds size h = (grind (arith, nat_tests), grind (arith, nat_tests))
 
-u32_at-take : (n : ℕ) (bytes : List ℕ) (at : ℕ) → at + 4 ≤ n → u32_at (take n bytes) at ≡ u32_at bytes at
+pub u32_at-take : (n : ℕ) (bytes : List ℕ) (at : ℕ) → at + 4 ≤ n → u32_at (take n bytes) at ≡ u32_at bytes at
 unfolding u32_at
 u32_at-take n bytes at within =
     rw (

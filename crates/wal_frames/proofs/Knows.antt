@@ -10,7 +10,7 @@ use Rattle.wal_frames.specs.Scan.{TellsFrame}
 use Rattle.wal_frames.specs.Found.{FindsFrames}
 use Rattle.wal_frames.specs.declared.header.LogHeader.{LogHeader}
 use Rattle.wal_frames.specs.declared.scan.FrameTold.{FrameTold}
-use Rattle.wal_frames.specs.declared.scan.Accepted.{Accepted}
+use Rattle.wal_frames.specs.declared.found.Accepted.{Accepted}
 use Rattle.wal_frames.proofs.FrameParts.{frame_at}
 
 abbrev pub Knows : List ℕ → LogHeader → ℕ → Words → ℕ → ℕ → Words → List ℕ → Type 0
@@ -31,7 +31,7 @@ pub knows_more : (bytes : List ℕ) (header : LogHeader) (at : ℕ) (sum : Words
 knows_more bytes header at sum kept size kept_sum pages told (frames, s, numbers) tells none =
     let frame = frame_at bytes at header in
     let more = scanned_more bytes (fields_for header) frames at sum kept size kept_sum frame s tells.valid
-        (frame_there bytes at header sum tells.valid) (sym tells.size ∙ none) in
+    (frame_there bytes at header sum tells.valid) (sym tells.size ∙ none) in
     (frames ++ frame ∷ [], rw (tells.valid.whole, ← tells.summed) at more, pages_more pages told.page frames frame numbers tells.page)
 
 pub knows_commit : (bytes : List ℕ) (header : LogHeader) (at : ℕ) (sum : Words) (kept size : ℕ) (kept_sum : Words) (pages : List ℕ) (told : FrameTold) (count : ℕ)
@@ -41,7 +41,7 @@ pub knows_commit : (bytes : List ℕ) (header : LogHeader) (at : ℕ) (sum : Wor
 knows_commit bytes header at sum kept size kept_sum pages told count (frames, s, numbers) tells some is =
     let frame = frame_at bytes at header in
     let more = scanned_commit bytes (fields_for header) frames at sum kept size kept_sum frame s tells.valid
-        (frame_there bytes at header sum tells.valid) (λ none. some (tells.size ∙ none)) in
+    (frame_there bytes at header sum tells.valid) (λ none. some (tells.size ∙ none)) in
     let all : length frames + 1 ≡ count = omega (arith, ap length numbers, length-map frames page_number, is) in
     (frames ++ frame ∷ [], rw (tells.valid.whole, ← tells.summed, ← tells.size, all) at more, pages_more pages told.page frames frame numbers tells.page)
 
@@ -51,9 +51,10 @@ pub found_at_end : (bytes : List ℕ) (header : LogHeader) (at : ℕ) (sum : Wor
     → found.pages.items ≡ take kept pages → found.size ≡ size → words_of found.sum ≡ kept_sum
     → FindsFrames header bytes found
 found_at_end bytes header at sum kept size kept_sum pages found (frames, s, numbers) stops items size_is sum_is log ours same =
-    let scanned = rw same at s in
-    (take kept frames,
+    let scanned = rw same at s in (
+      take kept frames,
       scanned_end log bytes frames at sum kept size kept_sum scanned ours (rw same at stops),
       items ∙ ap (λ (xs : List ℕ). take kept xs) numbers ∙ take-map page_number kept frames,
       size_is ∙ s.kept_size,
-      sum_is ∙ scanned.kept_summed)
+      sum_is ∙ scanned.kept_summed,
+    )

@@ -4,6 +4,7 @@
 //! checkpoint sequence number holds a generation, are this project's own.
 #![tactic(auto)]
 
+mod found;
 mod header;
 mod read;
 mod scan;
@@ -12,7 +13,9 @@ mod sum;
 mod tests;
 mod write;
 
+pub use found::{Accepted, ScanFault};
 pub use header::{Front, LogHeader};
 pub use read::read_log_header;
+pub use scan::accepted;
 pub use sum::{Sum, sum_step};
 pub use write::write_log_header;

@@ -5,18 +5,17 @@ ghost use Rattle.disk_face.specs.Steps.{reads};
 ghost use Rattle.disk_face.specs.Told.{IsSize, IsInside};
 ghost use Rattle.log_spec.specs.Checksum.{checksum};
 ghost use Rattle.page_spec.specs.Header.{is_page_size};
-ghost use Rattle.wal_frames.specs.Front.{words_of};
+ghost use Rattle.wal_frames.specs.Front.{words_of, front_of};
 ghost use Rattle.wal_frames.specs.Scan.{FitsHead, TellsOf, NextOf};
-ghost use Rattle.wal_frames.specs.Found.{FindsFrames};
+ghost use Rattle.wal_frames.specs.Found.{FindsFrames, FindsAccepted, IsLegalFront, log_file};
 
-use thiserror::Error;
-
+use crate::found::{Accepted, ScanFault};
 use crate::header::{Front, LogHeader};
+use crate::read::read_log_header;
 use crate::sum::{Sum, sum_step};
-use std::alloc::Global;
-
 use be_fields::get_u32;
 use disk_face::{Disk, Failed, File};
+use std::alloc::Global;
 
 /// The checksum after a page's bytes of a file, going on from another. They are read in pieces.
 fn sum_page<D: Disk>(
@@ -118,7 +117,14 @@ fn read_frame<D: Disk>(
 }
 
 /// What the next frame tells. None where the file has no room for one there, or the frame isn't valid.
-fn next_frame<D: Disk>(disk: &mut D, file: File, size: u64, at: u64, header: &LogHeader, sum: Sum) -> Result<Option<FrameTold>, ScanFault>
+fn next_frame<D: Disk>(
+    disk: &mut D,
+    file: File,
+    size: u64,
+    at: u64,
+    header: &LogHeader,
+    sum: Sum,
+) -> Result<Option<FrameTold>, ScanFault>
     requires attached { D.attached disk.old ≡ true }
     requires legal { IsTrue (is_page_size header.now.page_size) }
     requires sized { IsSize (D.told disk.old) file size }
@@ -143,31 +149,6 @@ fn next_frame<D: Disk>(disk: &mut D, file: File, size: u64, at: u64, header: &Lo
     }
 }
 
-/// Why the accepted frames of a log can't be told.
-#[derive(Clone, Copy, Debug, PartialEq, Eq, Error)]
-pub enum ScanFault {
-    /// The disk failed, and its count of faults rose.
-    #[error("disk failed")]
-    Disk,
-    /// There was no memory for the page numbers.
-    #[error("out of memory")]
-    Memory,
-}
-
-/// What is accepted of a log.
-#[derive(Debug, Drop)]
-pub struct Accepted {
-    /// What the log begins with.
-    pub front: Front,
-    /// The page numbers of the accepted frames, in order.
-    pub pages: Vec<u32>,
-    /// The size of the database in pages after the last accepted frame, 0 where there is none.
-    pub size: u32,
-    /// The checksum after the last accepted frame. Where there is none it is that of the header, or 0, 0 without a header of
-    /// ours.
-    pub sum: Sum,
-}
-
 /// Appends a page number.
 fn add_page(pages: &mut Vec<u32>, page: u32) -> Result<(), ScanFault>
     ensures ok { OnOk result (pages.new.items ≡ pages.old.items ++ page ∷ []) }
@@ -180,7 +161,13 @@ fn add_page(pages: &mut Vec<u32>, page: u32) -> Result<(), ScanFault>
 }
 
 /// Finds the frames after a header of ours that are accepted. Each is read once, in pieces.
-fn scan<D: Disk>(alloc: Global, disk: &mut D, file: File, size: u64, header: &LogHeader) -> Result<Accepted, ScanFault>
+fn scan<D: Disk>(
+    alloc: Global,
+    disk: &mut D,
+    file: File,
+    size: u64,
+    header: &LogHeader,
+) -> Result<Accepted, ScanFault>
     requires attached { D.attached disk.old ≡ true }
     requires legal { IsTrue (is_page_size header.now.page_size) }
     requires sized { IsSize (D.told disk.old) file size }
@@ -218,4 +205,67 @@ fn scan<D: Disk>(alloc: Global, disk: &mut D, file: File, size: u64, header: &Lo
         size: kept_size,
         sum: kept_sum,
     })
+}
+
+/// What a log on a disk begins with.
+fn read_front<D: Disk>(disk: &mut D, file: File, size: u64, log: u8) -> Result<Front, ScanFault>
+    requires which { (log ≡ 1) ⊎ (log ≡ 2) }
+    requires attached { D.attached disk.old ≡ true }
+    requires sized { IsSize (D.told disk.old) file size }
+    ensures front { IfOk result (λ front. IfSome (D.told disk.old) (λ told. front ≡ front_of log (content (reads told) file))) }
+    ensures ours { IfOk result (λ front. IsLegalFront front size) }
+    ensures cause { IfErr result (λ fault. (fault ≡ ScanFault.Disk) × Rose (D.faults disk.old) (D.faults disk.new)) }
+    ensures faults { D.faults disk.old ≤ D.faults disk.new }
+    ensures loans { D.loans disk.new ≡ D.loans disk.old }
+    ensures journal_answer { D.journal_answer disk.new ≡ D.journal_answer disk.old }
+    ensures attached { D.attached disk.new ≡ D.attached disk.old }
+    ensures told { D.told disk.new ≡ D.told disk.old }
+{
+    if size < 32 {
+        return Ok(Front::Nothing);
+    }
+    let mut bytes = [0u8; 32];
+    match disk.read_at(file, 0, &mut bytes) {
+        Ok(()) => Ok(read_log_header(&bytes, log)),
+        Err(Failed) => Err(ScanFault::Disk),
+    }
+}
+
+/// Finds what is accepted of log 1 or log 2: its header, if that is ours, and the longest list of valid frames after it that
+/// ends in a commit frame.
+///
+/// The log is read once, in pieces of at most 512 bytes, and nothing is written. Memory is taken for page numbers alone.
+pub fn accepted<D: Disk>(alloc: Global, disk: &mut D, log: u8) -> Result<Accepted, ScanFault>
+    requires which { (log ≡ 1) ⊎ (log ≡ 2) }
+    requires attached { D.attached disk.old ≡ true }
+    ensures found { IfOk result (λ found. IfSome (D.told disk.old)
+        (λ told. FindsAccepted log (content (reads told) (log_file log)) found)) }
+    ensures cause { result ≡ Err ScanFault.Disk → Rose (D.faults disk.old) (D.faults disk.new) }
+    ensures faults { D.faults disk.old ≤ D.faults disk.new }
+    ensures loans { D.loans disk.new ≡ D.loans disk.old }
+    ensures journal_answer { D.journal_answer disk.new ≡ D.journal_answer disk.old }
+    ensures attached { D.attached disk.new ≡ D.attached disk.old }
+    ensures told { D.told disk.new ≡ D.told disk.old }
+{
+    let file = log_file(log);
+    let Ok(size) = disk.size(file) else {
+        return Err(ScanFault::Disk);
+    };
+    let front = read_front(disk, file, size, log)?;
+    match front {
+        Front::Ours(header) => scan(alloc, disk, file, size, &header),
+        other => Ok(Accepted {
+            front: other,
+            pages: Vec::new(alloc),
+            size: 0,
+            sum: Sum { s0: 0, s1: 0 },
+        }),
+    }
+}
+
+/// The file of log 1 or log 2.
+fn log_file(log: u8) -> File
+    ensures { result ≡ log_file log }
+{
+    if log == 1 { File::Log1 } else { File::Log2 }
 }
