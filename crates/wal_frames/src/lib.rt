@@ -8,6 +8,8 @@ mod found;
 mod header;
 mod read;
 mod scan;
+#[cfg(test)]
+mod scan_tests;
 mod sum;
 #[cfg(test)]
 mod tests;
