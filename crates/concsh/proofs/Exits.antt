@@ -18,7 +18,8 @@ use Rattle.script.specs.Raw.{HasNoEnd, raw_lines, is_within, text_of_raw}
 use Rattle.script.proofs.Lines.{concat-raw_lines}
 use Rattle.concsh.specs.declared.lines.Next.{Next}
 use Rattle.concsh.specs.declared.lines.Next.TheVariants as next
-use Rattle.concsh.specs.Memory.{Memory, IsAt, IsInRange}
+use Rattle.acts.specs.InMemory.{Memory, IsAt}
+use Rattle.acts.specs.Pagers.{IsInRange}
 use Rattle.concsh.specs.Reading.{Reading, script_left, WhereTold, Advances}
 use Rattle.concsh.specs.Outcome.{act_in, acts_in, replies, line_in, lines_run, is_refused, refused_text, text_of, status_of, source_failed, cut_text, PutsFront, IsCut, Ran}
 use Rattle.concsh.proofs.Written.{Puts-more}

@@ -9,7 +9,7 @@ use Rattle.run_spec.specs.Reply.{reply_text, session_of}
 use Rattle.run_spec.specs.World.{World, step, start, after}
 use Rattle.script.specs.declared.grammar.Line.{Line}
 use Rattle.script.specs.Raw.{raw_lines}
-use Rattle.concsh.specs.Memory.{Memory, IsAt}
+use Rattle.acts.specs.InMemory.{Memory, IsAt}
 use Rattle.concsh.specs.Reading.{WhereTold}
 use Rattle.concsh.specs.Outcome.{act_in, acts_in, replies, line_in, line_before, lines_run, is_refused, refused_text, text_of}
 use Rattle.concsh.proofs.Written.{Puts-more}

@@ -2,7 +2,6 @@
 #![tactic(auto)]
 
 mod lines;
-mod memory;
 mod output;
 mod pages;
 mod reply;

@@ -4,13 +4,14 @@ ghost use Rattle.disk_face.specs.Faults.{Rose};
 ghost use Rattle.disk_face.specs.Sink.{Puts};
 ghost use Rattle.run_spec.specs.Reply.{reply_text, session_of};
 ghost use Rattle.run_spec.specs.World.{World, step, after};
-ghost use Rattle.concsh.specs.Memory.{IsAt, IsInRange};
+ghost use Rattle.acts.specs.InMemory.{IsAt};
+ghost use Rattle.acts.specs.Pagers.{IsInRange};
 ghost use Rattle.concsh.specs.Outcome.{act_in, acts_in, page_act, replies, refused_text, source_failed, PutsFront, Ran};
 
 use crate::lines::{LineReader, Next};
-use crate::memory::InMemory;
 use crate::output::write_all;
 use crate::reply::{refused_line, told_text};
+use acts::InMemory;
 use disk_face::{Failed, Sink, Source};
 use run_spec::Act;
 use script::{Act2, Form, Line, line_text, read_line};

@@ -1,7 +1,7 @@
 use Rattle.std.proofs.Common.{◌≡◌, ◌≤◌, ◌+◌, ◌-◌, IfSome}
 use Rattle.run_spec.specs.World.{World}
 use Rattle.script.specs.Raw.{script_limit}
-use Rattle.concsh.specs.Memory.{IsAt}
+use Rattle.acts.specs.InMemory.{IsAt}
 use Rattle.concsh.specs.Reading.{script_left}
 use Rattle.concsh.proofs.Standing.{Standing}
 use Rattle.concsh.proofs.pages.run_pages.Given as goal
