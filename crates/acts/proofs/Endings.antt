@@ -1,11 +1,11 @@
 -- How the pins of all sessions are given back, one after another.
-use Rattle.std.proofs.Common.{◌≡◌, ℕ, ◌+◌, ◌<◌, ◌≤◌, List, [], ◌∷◌, ◌++◌, length, get_or, drop, Option, zero, suc, refl, sym, subst, ap, ◌∙◌, arith, inl, inr, append_assoc, drop-cons}
-use Rattle.std.specs.Prelude.{Contains, All}
+use Rattle.std.proofs.Common.{◌≡◌, ℕ, ◌+◌, ◌<◌, List, [], ◌∷◌, ◌++◌, length, get_or, drop, Option, suc, sym, subst, ap, ◌∙◌, arith, inl, inr, drop-cons}
+use Rattle.std.specs.Prelude.{Contains}
 use Rattle.std.proofs.lemmas.List.{get_or_default}
 use Rattle.std.proofs.lemmas.List.Elements.{Contains-append_left, Contains-append_right, Contains-append_cases}
 use Rattle.page_spec.specs.PageMap.{PageMap}
 use Rattle.run_spec.specs.declared.pins.Pin.{Pin}
-use Rattle.run_spec.specs.Seen.{Seen, Ends}
+use Rattle.run_spec.specs.Seen.{Seen}
 use Rattle.acts.specs.declared.seats.Seat.{Seat}
 use Rattle.acts.specs.Pagers.{pins_in, pins_of, EndsAll}
 use Rattle.acts.specs.Turns.{AllLive, Stays}
@@ -36,11 +36,13 @@ pub live_from : {E : Type 0} (live : E → List Pin → Type 0) (engine : E) (se
     → i < length seats → seat ≡ get_or seats i seat → live engine (pins_of (drop i seats) ++ others) → AllLive live engine (pins_in seat.state)
 live_from live engine seats i seat others within item lives = λ k d inside.
     (let pin = get_or (pins_in seat.state) k d in
-    let here : Contains (pins_in seat.state) pin = (k, inside, get_or_default (pins_in seat.state) k pin d inside) in
-    (pins_of (drop i seats) ++ others, lives,
+    let here : Contains (pins_in seat.state) pin = (k, inside, get_or_default (pins_in seat.state) k pin d inside) in (
+      pins_of (drop i seats) ++ others,
+      lives,
       Contains-append_left (pins_of (drop i seats)) others pin
-      (subst (λ (pins : List Pin). Contains pins pin) (sym (pins_drop seats i seat within item))
-      (Contains-append_left (pins_in seat.state) (pins_of (drop (i + 1) seats)) pin here))))
+          (subst (λ (pins : List Pin). Contains pins pin) (sym (pins_drop seats i seat within item))
+          (Contains-append_left (pins_in seat.state) (pins_of (drop (i + 1) seats)) pin here)),
+    ))
 
 -- fewer pins among others are among more
 among : (front some rest back : List Pin) (pin : Pin) → Contains (front ++ (rest ++ back)) pin → Contains (front ++ ((some ++ rest) ++ back)) pin

@@ -1,5 +1,5 @@
 -- What was done where others keep away is done where they may, and each act lets the history grow at its end alone.
-use Rattle.std.proofs.Common.{◌≡◌, ℕ, ◌+◌, ◌<◌, ◌≤◌, List, [], ◌∷◌, ◌++◌, Option, Some, None, refl, sym, subst, ap, ◌∙◌, arith, inl, inr, append_assoc}
+use Rattle.std.proofs.Common.{◌≡◌, ℕ, List, [], ◌∷◌, ◌++◌, Option, Some, None, sym, ap, ◌∙◌, inl, inr, append_assoc}
 use Rattle.std.proofs.lemmas.List.{append-nil}
 use Rattle.page_spec.specs.PageMap.{PageMap}
 use Rattle.run_spec.specs.declared.pins.Pin.{Pin}
@@ -8,17 +8,15 @@ use Rattle.run_spec.specs.declared.lines.Act.{Act}
 use Rattle.run_spec.specs.declared.lines.Act.TheVariants as act
 use Rattle.run_spec.specs.declared.lines.Told.{Told}
 use Rattle.run_spec.specs.declared.lines.Told.TheVariants as reply
-use Rattle.run_spec.specs.declared.commits.CommitFault.TheVariants as fault
 use Rattle.run_spec.specs.declared.commits.Receipt.{Receipt}
 use Rattle.run_spec.specs.declared.commits.Receipt.TheVariants.{At, ReadOnly}
 use Rattle.run_spec.specs.declared.commits.Commit.{Commit}
-use Rattle.run_spec.specs.Logs.{told_logs, one_more}
-use Rattle.run_spec.specs.Seen.{Seen, Found, Later, Begins, Ends, Fails, OnlyFaults, Submitted, Accepts, Refuses, Checkpoints, commit_of}
+use Rattle.run_spec.specs.Seen.{Seen, Found, Later, Ends, Fails, OnlyFaults, Submitted, Accepts, Checkpoints, commit_of}
 use Rattle.acts.specs.declared.seats.Seat.{Seat}
 use Rattle.acts.specs.declared.seats.State.{State}
 use Rattle.acts.specs.declared.seats.State.TheVariants.{Out, Open, Refused}
 use Rattle.acts.specs.declared.seats.Transaction.{Transaction}
-use Rattle.acts.specs.Pagers.{Between, Acts, BeginActs, ReadActs, ReadOpen, FetchOpen, WriteActs, CommitActs, CommitOpen, RollbackActs, StepActs, Copies, CopyActs, IsLast, Grew, EndsAll, state_of, begun_of, with_seat, with_state, submitted_of, new_transaction}
+use Rattle.acts.specs.Pagers.{Between, Acts, BeginActs, ReadActs, ReadOpen, WriteActs, CommitActs, CommitOpen, RollbackActs, StepActs, Copies, Grew, EndsAll, state_of, submitted_of}
 use Rattle.run_spec.specs.PageLines.{image_of}
 
 -- Later under weaker premises
@@ -54,9 +52,18 @@ acts_under alone free alone_then free_then old new maps maps_then before (act.Be
     by_state : (state : State)
         → BeginActs (record { alone = alone_then; free = free_then; old = old; new = new; map_before = maps; map_after = maps_then }) session before after told state
         → BeginActs (record { alone = alone; free = free; old = old; new = new; map_before = maps; map_after = maps_then }) session before after told state
-    by_state Out (is, (pin, (mid, later, (begun, begins, then, map)), put)) = (is, (pin,
-        (mid, later_under alone free alone_then free_then old mid alone_stays free_stays later,
-          (begun, begins, later_under alone free alone_then free_then begun new alone_stays free_stays then, map)), put))
+    by_state Out (is, (pin, (mid, later, (begun, begins, then, map)), put)) = (
+      is,
+      (
+        pin,
+        (
+          mid,
+          later_under alone free alone_then free_then old mid alone_stays free_stays later,
+          (begun, begins, later_under alone free alone_then free_then begun new alone_stays free_stays then, map),
+        ),
+        put,
+      ),
+    )
     by_state (Open transaction) same = same
     by_state (Refused pin) same = same
 acts_under alone free alone_then free_then old new maps maps_then before (act.Read session page) told after alone_stays free_stays acts =
@@ -70,6 +77,7 @@ acts_under alone free alone_then free_then old new maps maps_then before (act.Re
         inl (is, put, (mid, later_under alone free alone_then free_then old mid alone_stays free_stays later, fails))
     by_image transaction None (inr (byte, is, bytes, put, (mid, later, only))) =
         inr (byte, is, bytes, put, (mid, later_under alone free alone_then free_then old mid alone_stays free_stays later, only))
+
     by_state : (state : State)
         → ReadActs (record { alone = alone_then; free = free_then; old = old; new = new; map_before = maps; map_after = maps_then }) session page before after told state
         → ReadActs (record { alone = alone; free = free; old = old; new = new; map_before = maps; map_after = maps_then }) session page before after told state
@@ -108,6 +116,7 @@ acts_under alone free alone_then free_then old new maps maps_then before (act.Co
     by_told transaction reply.MustRollBack never = absurd never
     by_told transaction (reply.Ckpt answer) never = absurd never
     by_told transaction (reply.Logs logs) never = absurd never
+
     by_state : (state : State)
         → CommitActs (record { alone = alone_then; free = free_then; old = old; new = new; map_before = maps; map_after = maps_then }) session before after told state
         → CommitActs (record { alone = alone; free = free; old = old; new = new; map_before = maps; map_after = maps_then }) session before after told state
@@ -139,9 +148,13 @@ acts_under alone free alone_then free_then old new maps maps_then before act.Cop
         inl (is, (mid, later_under alone free alone_then free_then from mid alone_stays free_stays later, fails))
     by_answers [] from (inr (answer, last, is, (mid, later, steps))) =
         inr (answer, last, is, (mid, later_under alone free alone_then free_then from mid alone_stays free_stays later, steps))
-    by_answers (answer ∷ answers) from (copied, page, is, (mid, later, steps), rest) =
-        (copied, page, is, (mid, later_under alone free alone_then free_then from mid alone_stays free_stays later, steps),
-          by_answers answers copied rest)
+    by_answers (answer ∷ answers) from (copied, page, is, (mid, later, steps), rest) = (
+      copied,
+      page,
+      is,
+      (mid, later_under alone free alone_then free_then from mid alone_stays free_stays later, steps),
+      by_answers answers copied rest,
+    )
 acts_under alone free alone_then free_then old new maps maps_then before act.Logs told after alone_stays free_stays (same, (mid, later, logs)) =
     (same, (mid, later_under alone free alone_then free_then old mid alone_stays free_stays later, logs))
 
@@ -231,6 +244,7 @@ acts_grew alone free old new maps maps_then before (act.Read session page) told 
     by_image transaction (Some bytes) read = grew_equal old new read.2
     by_image transaction None (inl (is, put, fails)) = grew_fails alone free old new fails
     by_image transaction None (inr (byte, is, bytes, put, only)) = grew_faults alone free old new only
+
     by_state : (state : State)
         → ReadActs (record { alone = alone; free = free; old = old; new = new; map_before = maps; map_after = maps_then }) session page before after told state
         → Grew old new
@@ -269,6 +283,7 @@ acts_grew alone free old new maps maps_then before (act.Commit session) told aft
     by_told transaction reply.MustRollBack never = absurd never
     by_told transaction (reply.Ckpt answer) never = absurd never
     by_told transaction (reply.Logs logs) never = absurd never
+
     by_state : (state : State)
         → CommitActs (record { alone = alone; free = free; old = old; new = new; map_before = maps; map_after = maps_then }) session before after told state
         → Grew old new

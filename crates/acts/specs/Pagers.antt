@@ -1,5 +1,5 @@
 -- The sessions of page lines over an engine: what each holds, and what an act does to them and to the engine.
-use Rattle.std.specs.Prelude.{◌≡◌, ℕ, ◌+◌, ◌≤◌, ◌<◌, ◌==◌, ◌⊎◌, if◌then◌else◌, Bool, true, false, List, [], ◌∷◌, ◌++◌, length, map, replicate, slice_index, Option, Some, None, IfSome, All, Contains}
+use Rattle.std.specs.Prelude.{◌≡◌, ℕ, ◌≤◌, ◌==◌, ◌⊎◌, if◌then◌else◌, true, false, List, [], ◌∷◌, ◌++◌, map, replicate, slice_index, Option, Some, None, IfSome, All, Contains}
 use Rattle.std.specs.List.{flat_map}
 use Rattle.page_spec.specs.PageMap.{PageMap, page_at}
 use Rattle.run_spec.specs.declared.pins.Pin.{Pin}

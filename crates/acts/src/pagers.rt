@@ -1,5 +1,5 @@
 // The sessions of page lines.
-ghost use Rattle.std.specs.Prelude.{◌≡◌, ℕ, ◌≤◌, ◌<◌, ◌==◌, position, List, [], ◌++◌, Contains, IfOk, OnOk, OnErr, Option};
+ghost use Rattle.std.specs.Prelude.{◌≡◌, ◌≤◌, ◌<◌, ◌==◌, position, List, [], ◌++◌, Contains, IfOk, OnErr, Option};
 ghost use Rattle.page_spec.specs.PageMap.{PageMap};
 ghost use Rattle.run_spec.specs.declared.lines.Act.TheVariants as act;
 ghost use Rattle.run_spec.specs.declared.pins.Pin.{Pin};
@@ -54,8 +54,13 @@ impl Pagers {
         requires live { (others : List Pin) × E.live engine.old (pins_of self.old ++ others) }
 
         ensures acts { IfOk result (λ told. Acts (record {
-            alone = E.alone engine.old; free = E.free engine.old; old = E.seen engine.old; new = E.seen engine.new;
-            map_before = E.map_at engine.old; map_after = E.map_at engine.new }) self.old act told self.new) }
+          alone = E.alone engine.old;
+          free = E.free engine.old;
+          old = E.seen engine.old;
+          new = E.seen engine.new;
+          map_before = E.map_at engine.old;
+          map_after = E.map_at engine.new;
+        }) self.old act told self.new) }
 
         // Want of memory leaves the sessions as they were, and of the engine all but its count of faults.
         ensures want { OnErr result (self.new ≡ self.old) }
@@ -113,8 +118,13 @@ fn act_on<E: Engine<Raw>>(
     requires sound { AreSound (E.seen engine.old).page_size seats.old.items }
     requires live { (others : List Pin) × E.live engine.old (pins_of seats.old.items ++ others) }
     ensures acts { IfOk result (λ told. Acts (record {
-        alone = E.alone engine.old; free = E.free engine.old; old = E.seen engine.old; new = E.seen engine.new;
-        map_before = E.map_at engine.old; map_after = E.map_at engine.new }) seats.old.items act told seats.new.items) }
+      alone = E.alone engine.old;
+      free = E.free engine.old;
+      old = E.seen engine.old;
+      new = E.seen engine.new;
+      map_before = E.map_at engine.old;
+      map_after = E.map_at engine.new;
+    }) seats.old.items act told seats.new.items) }
     ensures want { OnErr result (seats.new.items ≡ seats.old.items) }
     ensures wanting { OnErr result (Found (E.alone engine.old) (E.free engine.old) (E.seen engine.old) (λ mid. OnlyFaults mid (E.seen engine.new))) }
     ensures sound { AreSound (E.seen engine.new).page_size seats.new.items }
@@ -122,9 +132,27 @@ fn act_on<E: Engine<Raw>>(
 {
     match act {
         Act::Begin { session } => begin(alloc, seats, engine, session),
-        Act::Read { session, page } => in_seat(alloc, seats, buf, engine, session, Deed::Read { page }),
-        Act::Write { session, page, byte } => {
-            in_seat(alloc, seats, buf, engine, session, Deed::Write { page, byte })
+        Act::Read { session, page } => in_seat(
+            alloc,
+            seats,
+            buf,
+            engine,
+            session,
+            Deed::Read { page },
+        ),
+        Act::Write {
+            session,
+            page,
+            byte,
+        } => {
+            in_seat(
+                alloc,
+                seats,
+                buf,
+                engine,
+                session,
+                Deed::Write { page, byte },
+            )
         }
         Act::Commit { session } => in_seat(alloc, seats, buf, engine, session, Deed::Commit),
         Act::Rollback { session } => in_seat(alloc, seats, buf, engine, session, Deed::Rollback),
@@ -154,8 +182,13 @@ fn in_seat<E: Engine<Raw>>(
     requires sound { AreSound (E.seen engine.old).page_size seats.old.items }
     requires live { (others : List Pin) × E.live engine.old (pins_of seats.old.items ++ others) }
     ensures acts { IfOk result (λ told. Acts (record {
-        alone = E.alone engine.old; free = E.free engine.old; old = E.seen engine.old; new = E.seen engine.new;
-        map_before = E.map_at engine.old; map_after = E.map_at engine.new }) seats.old.items (act_of session deed) told seats.new.items) }
+      alone = E.alone engine.old;
+      free = E.free engine.old;
+      old = E.seen engine.old;
+      new = E.seen engine.new;
+      map_before = E.map_at engine.old;
+      map_after = E.map_at engine.new;
+    }) seats.old.items (act_of session deed) told seats.new.items) }
     ensures want { OnErr result (seats.new.items ≡ seats.old.items) }
     ensures wanting { OnErr result (Found (E.alone engine.old) (E.free engine.old) (E.seen engine.old) (λ mid. OnlyFaults mid (E.seen engine.new))) }
     ensures sound { AreSound (E.seen engine.new).page_size seats.new.items }
@@ -178,8 +211,13 @@ fn begin<E: Engine<Raw>>(
     requires pages { 16 ≤ (E.seen engine.old).size }
     requires sound { AreSound (E.seen engine.old).page_size seats.old.items }
     ensures acts { IfOk result (λ told. Acts (record {
-        alone = E.alone engine.old; free = E.free engine.old; old = E.seen engine.old; new = E.seen engine.new;
-        map_before = E.map_at engine.old; map_after = E.map_at engine.new }) seats.old.items (act.Begin session) told seats.new.items) }
+      alone = E.alone engine.old;
+      free = E.free engine.old;
+      old = E.seen engine.old;
+      new = E.seen engine.new;
+      map_before = E.map_at engine.old;
+      map_after = E.map_at engine.new;
+    }) seats.old.items (act.Begin session) told seats.new.items) }
     ensures want { OnErr result (seats.new.items ≡ seats.old.items) }
     ensures wanting { OnErr result (E.seen engine.new ≡ E.seen engine.old) }
     ensures sound { AreSound (E.seen engine.new).page_size seats.new.items }

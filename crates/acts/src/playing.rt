@@ -1,9 +1,9 @@
 // Playing page lines.
-ghost use Rattle.std.specs.Prelude.{◌≡◌, ℕ, ◌≤◌, List, [], ◌++◌, Contains, IfOk, All};
+ghost use Rattle.std.specs.Prelude.{◌≡◌, ◌≤◌, List, [], ◌++◌, Contains, IfOk, All};
 ghost use Rattle.page_spec.specs.PageMap.{PageMap};
 ghost use Rattle.run_spec.specs.declared.pins.Pin.{Pin};
 ghost use Rattle.run_spec.specs.Seen.{Seen};
-ghost use Rattle.acts.specs.Pagers.{AreSound, IsInRange, pins_of, Plays, EndsAll, Grew};
+ghost use Rattle.acts.specs.Pagers.{IsInRange, pins_of, Plays, EndsAll, Grew};
 
 use crate::Raw;
 use crate::pagers::Pagers;
@@ -13,7 +13,11 @@ use std::alloc::{AllocError, Global};
 
 /// Plays acts one after another, and then rolls back what is still open. A transaction may always begin on the engine, its maps
 /// have 16 pages, and no pin of others is needed. The error is want of memory, after some of the acts.
-pub fn play<E: Engine<Raw>>(alloc: Global, engine: &mut E, acts: &[Act]) -> Result<Vec<Told>, AllocError>
+pub fn play<E: Engine<Raw>>(
+    alloc: Global,
+    engine: &mut E,
+    acts: &[Act],
+) -> Result<Vec<Told>, AllocError>
     requires free { E.free engine.old }
     requires pages { 16 ≤ (E.seen engine.old).size }
     requires range { All IsInRange acts.now }

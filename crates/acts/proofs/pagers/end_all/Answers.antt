@@ -5,7 +5,8 @@ use Rattle.acts.proofs.pagers.end_all.Goals as goal
 pub end_one-requires : goal.end_one-requires
 end_one-requires g c = record {
   live = live_from g.E.Engine.live c.loop-seat.engine c.args.seats.now c.loop-seat.seat-index c.seat-item.result c.requires.live.0
-      (omega arith) c.seat-item.is (c.loop-seat.invariant.stays.holds [] c.requires.live.0 c.requires.live.1) }
+      (omega arith) c.seat-item.is (c.loop-seat.invariant.stays.holds [] c.requires.live.0 c.requires.live.1);
+}
 
 pub loop-seat-preserved : goal.loop-seat-preserved
 loop-seat-preserved g c =
