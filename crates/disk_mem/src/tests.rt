@@ -1,45 +1,10 @@
 // What fails, what a crash leaves, and pieces that are given and taken.
 ghost use Rattle.std.specs.Prelude.{◌≡◌, true, false, IfOk};
 
-use crate::{Call, Fail, FixedSalts, MemDisk, MemSink, MemSource};
-use disk_face::{Disk, Failed, File, Salts, Sink, Source};
+use crate::{Call, Fail, MemDisk};
+use disk_face::{Disk, Failed, File};
 use std::alloc::{AllocError, Global};
 use std::test;
-
-#[test]
-fn a_source_gives_pieces_and_fails_once(rt: HostRuntime) -> Result<(), test::Fail> {
-    let text = b"abcde".to_vec(rt.alloc())?;
-    let mut source = MemSource::new(text, 2, Some(2));
-    let mut buf = [0; 4];
-    assert_eq!(rt; source.take(&mut buf), Ok(2));
-    assert_eq!(rt; buf, *b"ab\0\0");
-    assert_eq!(rt; source.take(&mut buf), Err(Failed));
-    assert_eq!(rt; source.take(&mut buf), Ok(2));
-    assert_eq!(rt; buf, *b"cd\0\0");
-    assert_eq!(rt; source.take(&mut buf), Ok(1));
-    assert_eq!(rt; buf, *b"ed\0\0");
-    assert_eq!(rt; source.take(&mut buf), Ok(0));
-    Ok(())
-}
-
-#[test]
-fn a_sink_takes_pieces_and_fails_once(rt: HostRuntime) -> Result<(), test::Fail> {
-    let mut sink = MemSink::new(rt.alloc(), 3, Some(2));
-    assert_eq!(rt; sink.put(b"abcd"), Ok(3));
-    assert_eq!(rt; sink.put(b"d"), Err(Failed));
-    assert_eq!(rt; sink.put(b"d"), Ok(1));
-    assert_eq!(rt; sink.written(), b"abcd".as_slice());
-    Ok(())
-}
-
-#[test]
-fn salts_are_given_in_turn_and_then_0(rt: HostRuntime) -> Result<(), test::Fail> {
-    let mut salts = FixedSalts::new([7, 9].to_vec(rt.alloc())?);
-    assert_eq!(rt; salts.word(), 7);
-    assert_eq!(rt; salts.word(), 9);
-    assert_eq!(rt; salts.word(), 0);
-    Ok(())
-}
 
 const SECOND_WRITE: Fail = Fail {
     file: File::Main,
@@ -56,58 +21,88 @@ const FIRST_SYNC: Fail = Fail {
 #[test]
 fn a_crash_leaves_what_was_picked(rt: HostRuntime) -> Result<(), test::Fail> {
     let alloc = rt.alloc();
-    let mut written = Trial::new(alloc, None)?;
-    written.write(File::Log1, 0, b"abc");
-    assert!(rt; written.leaves(alloc, &[1, 2], b"main,\x01\x02c,")?);
-    assert!(rt; written.leaves(alloc, &[], b"main,abc,")?);
-
-    let mut synced = Trial::new(alloc, None)?;
-    synced.write(File::Log1, 0, b"abc");
-    synced.sync(File::Log2);
-    assert!(rt; synced.leaves(alloc, b"xyz", b"main,xyz,")?);
-    synced.sync(File::Log1);
-    synced.write(File::Log1, 2, b"d");
-    assert!(rt; synced.leaves(alloc, b"xyz", b"main,abx,")?);
+    assert!(rt; one_write(alloc, &[1, 2], b"main,\x01\x02c,")?);
+    assert!(rt; one_write(alloc, &[], b"main,abc,")?);
+    assert!(rt; synced_before_a_write(alloc)?, "what is synced stands");
+    assert!(rt;
+        another_synced(alloc)?,
+        "a sync of another file confirms nothing"
+    );
+    assert!(rt; overlapping(alloc)?, "two ranges overlap");
+    assert!(rt; longer(alloc)?, "a write makes the file longer");
+    assert!(rt;
+        in_all_files(alloc)?,
+        "the main file comes first, then the logs in turn"
+    );
+    assert!(rt;
+        refused(alloc, b"1234", b"1234,,")?,
+        "any bytes stand in the range of a write that fails"
+    );
+    assert!(rt;
+        refused(alloc, b"", b"MAin,,")?,
+        "a write that fails changes nothing"
+    );
+    assert!(rt; unsynced(alloc)?, "a sync that fails confirms nothing");
     Ok(())
 }
 
-#[test]
-fn a_crash_takes_ranges_in_order(rt: HostRuntime) -> Result<(), test::Fail> {
-    let alloc = rt.alloc();
-    let mut overlapping = Trial::new(alloc, None)?;
-    overlapping.write(File::Main, 0, b"XX");
-    overlapping.write(File::Main, 1, b"YY");
-    assert!(rt; overlapping.leaves(alloc, b"1234", b"123n,,")?);
-
-    let mut longer = Trial::new(alloc, None)?;
-    longer.write(File::Main, 3, b"Nex");
-    assert!(rt; longer.leaves(alloc, b"12", b"mai12x,,")?);
-
-    let mut all = Trial::new(alloc, None)?;
-    all.write(File::Log2, 0, b"l");
-    all.write(File::Main, 1, b"A");
-    all.write(File::Log1, 0, b"k");
-    assert!(rt; all.leaves(alloc, b"123", b"m1in,2,3")?);
-    Ok(())
+fn one_write(alloc: Global, pick: &[u8], want: &[u8]) -> Result<bool, Failed> {
+    let mut trial = Trial::new(alloc, None)?;
+    trial.write(File::Log1, 0, b"abc");
+    trial.leaves(alloc, pick, want)
 }
 
-#[test]
-fn a_crash_after_a_failing_call(rt: HostRuntime) -> Result<(), test::Fail> {
-    let alloc = rt.alloc();
-    let mut refused = Trial::new(alloc, Some(SECOND_WRITE))?;
-    refused.write(File::Main, 0, b"M");
-    refused.write(File::Main, 2, b"IN");
-    refused.write(File::Main, 1, b"A");
-    assert!(rt; refused.leaves(alloc, b"1234", b"1234,,")?);
-    assert!(rt; refused.leaves(alloc, b"", b"MAin,,")?);
+fn synced_before_a_write(alloc: Global) -> Result<bool, Failed> {
+    let mut trial = Trial::new(alloc, None)?;
+    trial.write(File::Log1, 0, b"abc");
+    trial.sync(File::Log1);
+    trial.write(File::Log1, 2, b"d");
+    trial.leaves(alloc, b"xyz", b"main,abx,")
+}
 
-    let mut unsynced = Trial::new(alloc, Some(FIRST_SYNC))?;
-    unsynced.write(File::Log1, 0, b"abc");
-    unsynced.sync(File::Log1);
-    unsynced.write(File::Log2, 0, b"d");
-    unsynced.sync(File::Log2);
-    assert!(rt; unsynced.leaves(alloc, b"xyzw", b"main,xyz,d")?);
-    Ok(())
+fn another_synced(alloc: Global) -> Result<bool, Failed> {
+    let mut trial = Trial::new(alloc, None)?;
+    trial.write(File::Log1, 0, b"abc");
+    trial.sync(File::Log2);
+    trial.leaves(alloc, b"xyz", b"main,xyz,")
+}
+
+fn overlapping(alloc: Global) -> Result<bool, Failed> {
+    let mut trial = Trial::new(alloc, None)?;
+    trial.write(File::Main, 0, b"XX");
+    trial.write(File::Main, 1, b"YY");
+    trial.leaves(alloc, b"1234", b"123n,,")
+}
+
+fn longer(alloc: Global) -> Result<bool, Failed> {
+    let mut trial = Trial::new(alloc, None)?;
+    trial.write(File::Main, 3, b"Nex");
+    trial.leaves(alloc, b"12", b"mai12x,,")
+}
+
+fn in_all_files(alloc: Global) -> Result<bool, Failed> {
+    let mut trial = Trial::new(alloc, None)?;
+    trial.write(File::Log2, 0, b"l");
+    trial.write(File::Main, 1, b"A");
+    trial.write(File::Log1, 0, b"k");
+    trial.leaves(alloc, b"123", b"m1in,2,3")
+}
+
+fn refused(alloc: Global, pick: &[u8], want: &[u8]) -> Result<bool, Failed> {
+    let mut trial = Trial::new(alloc, Some(SECOND_WRITE))?;
+    trial.write(File::Main, 0, b"M");
+    trial.write(File::Main, 2, b"IN");
+    trial.write(File::Main, 1, b"A");
+    trial.leaves(alloc, pick, want)
+}
+
+fn unsynced(alloc: Global) -> Result<bool, Failed> {
+    let mut trial = Trial::new(alloc, Some(FIRST_SYNC))?;
+    trial.write(File::Log1, 0, b"abc");
+    trial.sync(File::Log1);
+    trial.write(File::Log2, 0, b"d");
+    trial.sync(File::Log2);
+    trial.leaves(alloc, b"xyzw", b"main,xyz,d")
 }
 
 #[test]
@@ -127,11 +122,9 @@ fn a_disk_stops_where_it_is_told(rt: HostRuntime) -> Result<(), test::Fail> {
 
 #[test]
 fn a_disk_reads_what_it_holds(rt: HostRuntime) -> Result<(), test::Fail> {
-    let mut disk = disk_with(rt.alloc(), None)?;
+    let mut trial = Trial::new(rt.alloc(), None)?;
     let mut buf = [0; 2];
-    if disk.file(File::Main).len() == 4 {
-        disk.read_at(File::Main, 1, &mut buf).or(Err("read"))?;
-    }
+    assert!(rt; trial.read(1, &mut buf));
     assert_eq!(rt; buf, *b"ai");
     Ok(())
 }
@@ -174,6 +167,13 @@ impl Trial {
         let _ = self.disk.sync(file);
     }
 
+    fn read(&mut self, at: u64, buf: &mut [u8]) -> bool {
+        let length = self.disk.file(File::Main).len() as u64;
+        at <= length
+            && buf.len() as u64 <= length - at
+            && self.disk.read_at(File::Main, at, buf).is_ok()
+    }
+
     fn size(&mut self) -> Result<u64, Failed> {
         self.disk.size(File::Main)
     }
@@ -183,11 +183,17 @@ impl Trial {
     }
 
     // Whether a crash leaves these three files, given with commas between them.
-    fn leaves(&self, alloc: Global, pick: &[u8], want: &[u8]) -> Result<bool, AllocError> {
-        let left = self.disk.crash(pick)?;
-        let files = joined(&left, alloc)?;
-        Ok(files.as_slice() == want)
+    fn leaves(&self, alloc: Global, pick: &[u8], want: &[u8]) -> Result<bool, Failed> {
+        match self.disk.crash(pick) {
+            Ok(left) => is_joined(&left, alloc, want).or(Err(Failed)),
+            Err(_) => Err(Failed),
+        }
     }
+}
+
+fn is_joined(disk: &MemDisk, alloc: Global, want: &[u8]) -> Result<bool, AllocError> {
+    let files = joined(disk, alloc)?;
+    Ok(files.as_slice() == want)
 }
 
 fn joined(disk: &MemDisk, alloc: Global) -> Result<Vec<u8>, AllocError> {
