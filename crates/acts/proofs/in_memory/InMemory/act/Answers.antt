@@ -39,4 +39,4 @@ returns-clause-stands c =
     let world = c.requires.stands.0 in
     let at = c.requires.stands.1 in
     both_ways c.act.result _ _ _ (returns-clause-acts c world at) (returns-clause-want c world at)
-        (λ told leads. ((step world c.args.act).world, leads.1)) (λ stays. (world, stays))
+    (λ told leads. ((step world c.args.act).world, leads.1)) (λ stays. (world, stays))
