@@ -1,9 +1,9 @@
 -- How steps of a checkpoint follow one another.
-use Rattle.std.proofs.Common.{◌≡◌, ℕ, ◌+◌, ◌<◌, ◌≤◌, List, [], ◌∷◌, ◌++◌, Option, Some, None, refl, sym, subst, ap, ◌∙◌, arith, rules}
-use Rattle.std.specs.Prelude.{Contains, IfSome}
+use Rattle.std.proofs.Common.{◌≡◌, ℕ, ◌≤◌, List, [], Option, Some, None, subst, ap, ◌∙◌, arith}
+use Rattle.std.specs.Prelude.{IfSome}
 use Rattle.page_spec.specs.PageMap.{PageMap}
 use Rattle.run_spec.specs.declared.pins.Pin.{Pin}
-use Rattle.run_spec.specs.Seen.{Seen, Found, Later}
+use Rattle.run_spec.specs.Seen.{Seen, Found}
 use Rattle.run_spec.specs.Seen.{Checkpoints}
 use Rattle.run_spec.specs.Logs.{LogState}
 use Rattle.run_spec.specs.declared.pins.Ckpt.{Ckpt}
@@ -13,7 +13,9 @@ use Rattle.acts.specs.Turns.{Stays}
 -- what was found where less stays apart, was found where more does
 pub found_under : (alone free alone_then free_then : Type 0) (old : Seen) (event : Seen → Type 0) → (alone → alone_then) → (free → free_then)
     → Found alone_then free_then old event → Found alone free old event
-found_under alone free alone_then free_then old event alone_stays free_stays (mid, later, came) = (mid, record {
+found_under alone free alone_then free_then old event alone_stays free_stays (mid, later, came) = (
+  mid,
+  record {
     more = later.more;
     grown = later.grown;
     own = later.own;
@@ -25,7 +27,9 @@ found_under alone free alone_then free_then old event alone_stays free_stays (mi
     usable = later.usable;
     logs = λ free. later.logs (free_stays free);
     nobody = λ alone. later.nobody (alone_stays alone);
-  }, came)
+  },
+  came,
+)
 
 -- what stays over two calls that leave all pins
 pub stays_on : {E : Type 0} (seen : E → Seen) (live : E → List Pin → Type 0) (map_at : E → Pin → Option PageMap)

@@ -10,3 +10,7 @@ pub mod Places
 pub mod Outcomes
 pub mod Seatings
 pub mod Copying
+pub mod Growth
+pub mod Endings
+pub mod Runs
+pub mod SharedMoves

@@ -53,8 +53,8 @@ finds before after seats next world at maps = record {
   quiet = refl;
   maps = λ pin new old.
       maps [] pin (live_alone (record { plain = before; seats = seats }) world at)
-          (subst (λ (pins : List Pin). Contains pins pin) (sym (append-nil (pins_of next))) new)
-          (subst (λ (pins : List Pin). Contains pins pin) (sym (append-nil (pins_of seats))) old);
+      (subst (λ (pins : List Pin). Contains pins pin) (sym (append-nil (pins_of next))) new)
+      (subst (λ (pins : List Pin). Contains pins pin) (sym (append-nil (pins_of seats))) old);
 }
 
 -- the pins hold after it

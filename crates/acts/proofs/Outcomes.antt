@@ -1,6 +1,6 @@
 -- What an act leaves of a transaction, and what a refused or accepted COMMIT means for the list of seats.
-use Rattle.std.proofs.Common.{◌≡◌, ℕ, ◌+◌, ◌<◌, ◌≤◌, List, [], ◌∷◌, ◌++◌, length, map, replicate, Option, Some, None, Result, Ok, Err, refl, sym, subst, ap, ◌∙◌, arith, zero, suc}
-use Rattle.std.specs.Prelude.{Contains, All, IfSome, IfOk, OnOk, OnErr, true, false}
+use Rattle.std.proofs.Common.{◌≡◌, ℕ, ◌+◌, ◌≤◌, List, [], ◌∷◌, ◌++◌, length, replicate, Option, Some, None, Result, Ok, Err, refl, sym, subst, ap, ◌∙◌, arith}
+use Rattle.std.specs.Prelude.{IfSome, IfOk, OnOk, OnErr, false}
 use Rattle.std.specs.declared.alloc.AllocError.{AllocError}
 use Rattle.std.proofs.lemmas.List.{length-replicate}
 use Rattle.page_spec.specs.PageMap.{PageMap, page_size_of}
@@ -13,16 +13,16 @@ use Rattle.run_spec.specs.declared.commits.CommitFault.{CommitFault}
 use Rattle.run_spec.specs.declared.commits.CommitFault.TheVariants.{Stopped, BusySnapshot, SizeLimit, Memory, Disk, Corrupt}
 use Rattle.run_spec.specs.declared.commits.Receipt.{Receipt}
 use Rattle.run_spec.specs.declared.commits.Receipt.TheVariants.{At, ReadOnly}
-use Rattle.run_spec.specs.PageLines.{Statement, ReadPage, WritePage, statement_text, read_text, write_text, image_of, with_image, Fills, AreImages, IsPageStore, PageLinesLead}
+use Rattle.run_spec.specs.PageLines.{ReadPage, WritePage, read_text, write_text, image_of, Fills, AreImages, IsPageStore, PageLinesLead}
 use Rattle.run_spec.specs.Good.{Good, HasSizes}
-use Rattle.run_spec.specs.Seen.{Seen, Found, Later, Accepts, Refuses, Ends, Submitted}
+use Rattle.run_spec.specs.Seen.{Seen, Found, Accepts, Refuses, Ends, Submitted}
 use Rattle.run_spec.proofs.Laying.{page_at-length}
 use Rattle.run_spec.proofs.GoodLines.{good_lines}
 use Rattle.run_spec.proofs.Transactions.{with_image-are, fills_read, fills_write, texts-push}
-use Rattle.page_face.specs.Pins.{IsLive, KeepsPins, TakesPin}
+use Rattle.page_face.specs.Pins.{KeepsPins, TakesPin}
 use Rattle.acts.specs.declared.seats.Seat.{Seat}
 use Rattle.acts.specs.declared.seats.State.{State}
-use Rattle.acts.specs.declared.seats.State.TheVariants.{Out, Open, Refused}
+use Rattle.acts.specs.declared.seats.State.TheVariants.{Open}
 use Rattle.acts.specs.declared.seats.Transaction.{Transaction}
 use Rattle.acts.specs.Pagers.{Between, Acts, ReadActs, ReadOpen, CommitOpen, IsSoundTransaction, after_own, after_fetch, after_write, submitted_of, with_state}
 use Rattle.acts.specs.Turns.{Moves, IsRefused, Stays}
@@ -72,9 +72,9 @@ sound_write (Err why) page_size size old new page byte range equal is same sound
 -- READ in an open transaction, as an act
 pub read_acts : (engine : Between) (session ordinal page : ℕ) (told : Result Told AllocError) (old : Transaction) (new : State)
     → IfOk told (λ told. (before after : List Seat) (session ordinal : ℕ) → Moves before session ordinal (Open old) new after
-        → ReadOpen engine session page before after told old (image_of old.changed page))
+    → ReadOpen engine session page before after told old (image_of old.changed page))
     → IfOk told (λ told. (before after : List Seat) → Moves before session ordinal (Open old) new after
-        → Acts engine before (act.Read session page) told after)
+    → Acts engine before (act.Read session page) told after)
 read_acts engine session ordinal page (Ok told) old new reads = λ before after moves.
     subst (λ (state : State). ReadActs engine session page before after told state) (sym moves.state) (reads before after session ordinal moves)
 read_acts engine session ordinal page (Err why) old new reads = tt
@@ -88,7 +88,7 @@ some_by (Some x) P each = each x refl
 pub good : (snapshot : PageMap) (old : Transaction) (page_size : ℕ) (fresh : List PageImage) (freed : List ℕ) → fresh ≡ []
     → HasSizes snapshot old.pin.size page_size → IsSoundTransaction page_size old
     → Good IsPageStore PageLinesLead snapshot old.reads
-        (record { mode = Concurrent; base = old.pin.size; changed = old.changed; fresh = fresh; freed = freed; tail = false }) old.said
+    (record { mode = Concurrent; base = old.pin.size; changed = old.changed; fresh = fresh; freed = freed; tail = false }) old.said
 good snapshot old page_size fresh freed none sizes sound =
     let some : 1 ≤ length snapshot = (let count = sizes.count in let pages = sound.pages in omega arith) in
     let same : page_size_of snapshot ≡ page_size = page_at-length snapshot page_size 1 sizes.each (omega arith) some in
@@ -120,65 +120,92 @@ asked_is before session ordinal old new after moves =
 -- COMMIT that was refused, as an act
 refused : (engine : Between) (session ordinal : ℕ) (old : Transaction) (why : CommitFault) (new : State) (told : Result Told AllocError)
     → Found engine.alone engine.free engine.old (λ mid. Refuses mid (record {
-        snap = old.pin.n; reads = old.reads;
-        change = record { mode = Concurrent; base = old.pin.size; changed = old.changed; fresh = []; freed = []; tail = false };
-        said = old.said; wrote = old.wrote; session = session; ordinal = ordinal }) why engine.new)
+      snap = old.pin.n;
+      reads = old.reads;
+      change = record { mode = Concurrent; base = old.pin.size; changed = old.changed; fresh = []; freed = []; tail = false };
+      said = old.said;
+      wrote = old.wrote;
+      session = session;
+      ordinal = ordinal;
+    }) why engine.new)
     → IsRefused why old new told
     → IfOk told (λ told. (before after : List Seat) → Moves before session ordinal (Open old) new after
-        → CommitOpen engine session before after old told)
+    → CommitOpen engine session before after old told)
 unfolding asked_by
 refused engine session ordinal old (Stopped log at) new told found is =
     subst (λ (told : Result Told AllocError). IfOk told (λ told. (before after : List Seat) → Moves before session ordinal (Open old) new after
-        → CommitOpen engine session before after old told)) (sym is.0)
+    → CommitOpen engine session before after old told)) (sym is.0)
     (λ before after moves. (
       subst (λ (asked : Submitted). Found engine.alone engine.free engine.old (λ mid. Refuses mid asked (Stopped log at) engine.new))
           (asked_is before session ordinal old new after moves) found,
-      moves.rests is.1))
+      moves.rests is.1,
+    ))
 refused engine session ordinal old (BusySnapshot page number) new told found is =
     subst (λ (told : Result Told AllocError). IfOk told (λ told. (before after : List Seat) → Moves before session ordinal (Open old) new after
-        → CommitOpen engine session before after old told)) (sym is.0)
+    → CommitOpen engine session before after old told)) (sym is.0)
     (λ before after moves. (
       subst (λ (asked : Submitted). Found engine.alone engine.free engine.old (λ mid. Refuses mid asked (BusySnapshot page number) engine.new))
           (asked_is before session ordinal old new after moves) found,
-      moves.put ∙ ap (λ (state : State). with_state before session state) is.1))
+      moves.put ∙ ap (λ (state : State). with_state before session state) is.1,
+    ))
 refused engine session ordinal old (SizeLimit pages frames) new told found is =
     subst (λ (told : Result Told AllocError). IfOk told (λ told. (before after : List Seat) → Moves before session ordinal (Open old) new after
-        → CommitOpen engine session before after old told)) (sym is.0)
-    (λ before after moves. ((frames,
-      subst (λ (asked : Submitted). Found engine.alone engine.free engine.old (λ mid. Refuses mid asked (SizeLimit pages frames) engine.new))
-          (asked_is before session ordinal old new after moves) found),
-      moves.rests is.1))
+    → CommitOpen engine session before after old told)) (sym is.0)
+    (λ before after moves. (
+      (
+        frames,
+        subst (λ (asked : Submitted). Found engine.alone engine.free engine.old (λ mid. Refuses mid asked (SizeLimit pages frames) engine.new))
+            (asked_is before session ordinal old new after moves) found,
+      ),
+      moves.rests is.1,
+    ))
 refused engine session ordinal old Memory new told found is =
     subst (λ (told : Result Told AllocError). IfOk told (λ told. (before after : List Seat) → Moves before session ordinal (Open old) new after
-        → CommitOpen engine session before after old told)) (sym is.0) tt
+    → CommitOpen engine session before after old told)) (sym is.0) tt
 refused engine session ordinal old Disk new told found is =
     subst (λ (told : Result Told AllocError). IfOk told (λ told. (before after : List Seat) → Moves before session ordinal (Open old) new after
-        → CommitOpen engine session before after old told)) (sym is.0)
+    → CommitOpen engine session before after old told)) (sym is.0)
     (λ before after moves. (
       subst (λ (asked : Submitted). Found engine.alone engine.free engine.old (λ mid. Refuses mid asked Disk engine.new))
           (asked_is before session ordinal old new after moves) found,
-      moves.rests is.1))
+      moves.rests is.1,
+    ))
 refused engine session ordinal old (Corrupt page) new told found is = absurd is
 
 pub refused_acts : (engine : Between) (session ordinal : ℕ) (old back : Transaction) (why : CommitFault) (new : State) (told : Result Told AllocError)
     (fresh : List PageImage) (freed : List ℕ) → fresh ≡ [] → freed ≡ []
     → Found engine.alone engine.free engine.old (λ mid. Refuses mid (record {
-        snap = old.pin.n; reads = old.reads;
-        change = record { mode = Concurrent; base = old.pin.size; changed = old.changed; fresh = fresh; freed = freed; tail = false };
-        said = old.said; wrote = old.wrote; session = session; ordinal = ordinal }) why engine.new)
+      snap = old.pin.n;
+      reads = old.reads;
+      change = record { mode = Concurrent; base = old.pin.size; changed = old.changed; fresh = fresh; freed = freed; tail = false };
+      said = old.said;
+      wrote = old.wrote;
+      session = session;
+      ordinal = ordinal;
+    }) why engine.new)
     → back ≡ old → IsRefused why back new told
     → IfOk told (λ told. (before after : List Seat) → Moves before session ordinal (Open old) new after
-        → CommitOpen engine session before after old told)
+    → CommitOpen engine session before after old told)
 refused_acts engine session ordinal old back why new told fresh freed none none_freed found same is =
     refused engine session ordinal old why new told
     (subst (λ (freed : List ℕ). Found engine.alone engine.free engine.old (λ mid. Refuses mid (record {
-        snap = old.pin.n; reads = old.reads;
-        change = record { mode = Concurrent; base = old.pin.size; changed = old.changed; fresh = []; freed = freed; tail = false };
-        said = old.said; wrote = old.wrote; session = session; ordinal = ordinal }) why engine.new)) none_freed
+      snap = old.pin.n;
+      reads = old.reads;
+      change = record { mode = Concurrent; base = old.pin.size; changed = old.changed; fresh = []; freed = freed; tail = false };
+      said = old.said;
+      wrote = old.wrote;
+      session = session;
+      ordinal = ordinal;
+    }) why engine.new)) none_freed
     (subst (λ (fresh : List PageImage). Found engine.alone engine.free engine.old (λ mid. Refuses mid (record {
-        snap = old.pin.n; reads = old.reads;
-        change = record { mode = Concurrent; base = old.pin.size; changed = old.changed; fresh = fresh; freed = freed; tail = false };
-        said = old.said; wrote = old.wrote; session = session; ordinal = ordinal }) why engine.new)) none found))
+      snap = old.pin.n;
+      reads = old.reads;
+      change = record { mode = Concurrent; base = old.pin.size; changed = old.changed; fresh = fresh; freed = freed; tail = false };
+      said = old.said;
+      wrote = old.wrote;
+      session = session;
+      ordinal = ordinal;
+    }) why engine.new)) none found))
     (subst (λ (one : Transaction). IsRefused why one new told) same is)
 
 -- Sizes after a commit, and the end of its pin.
@@ -190,7 +217,7 @@ done_sizes alone free old mid new asked (ReadOnly n) pin (before, later, accepts
     (omega arith, ap (λ (seen : Seen). seen.page_size) ends ∙ (ap (λ (seen : Seen). seen.page_size) accepts.2 ∙ later.page_size))
 done_sizes alone free old mid new asked (At number) pin (before, later, accepts) ends =
     let e : new.size ≡ before.size + length asked.change.fresh =
-        ap (λ (seen : Seen). seen.size) ends ∙ ap (λ (seen : Seen). seen.size) accepts.after_is in
+    ap (λ (seen : Seen). seen.size) ends ∙ ap (λ (seen : Seen). seen.size) accepts.after_is in
     let s = later.size in
     (omega arith, ap (λ (seen : Seen). seen.page_size) ends ∙ (ap (λ (seen : Seen). seen.page_size) accepts.after_is ∙ later.page_size))
 

@@ -1,11 +1,10 @@
 -- Putting an image or a seat, by the place of its page or session.
-use Rattle.std.proofs.Common.{◌≡◌, ℕ, ◌+◌, ◌<◌, ◌≤◌, Bool, true, false, cond, eqb, ltb, not, List, [], ◌∷◌, ◌++◌, length, set, get_or, Option, Some, None, zero, suc, refl, sym, ap, subst, ◌∙◌, arith}
+use Rattle.std.proofs.Common.{◌≡◌, ℕ, ◌+◌, ◌<◌, ◌≤◌, Bool, true, false, cond, eqb, ltb, not, List, [], ◌∷◌, ◌++◌, length, set, get_or, Some, None, suc, refl, sym, ap, subst, arith}
 use Rattle.std.specs.List.{position, position_or_len}
 use borrow.Author.Tests.{ltb-true, ltb-false, eqb-true}
 use Rattle.run_spec.specs.declared.commits.PageImage.{PageImage}
 use Rattle.run_spec.specs.PageLines.{with_image}
 use Rattle.acts.specs.declared.seats.Seat.{Seat}
-use Rattle.acts.specs.declared.seats.State.{State}
 use Rattle.acts.specs.declared.seats.State.TheVariants.{Out}
 use Rattle.acts.specs.Pagers.{state_of, begun_of, with_seat}
 
@@ -25,9 +24,9 @@ put_there (image ∷ images) page bytes there = by_test (eqb image.page page) th
   where
     by_test : (test : Bool) → cond (not test) (1 + position_or_len (λ image. eqb image.page page) images) 0 < length (image ∷ images)
         → (position_or_len (λ image. eqb image.page page) images < length images
-            → with_image images page bytes ≡ set images (position_or_len (λ image. eqb image.page page) images) (record { page = page; bytes = bytes }))
+        → with_image images page bytes ≡ set images (position_or_len (λ image. eqb image.page page) images) (record { page = page; bytes = bytes }))
         → cond test (record { page = page; bytes = bytes } ∷ images) (image ∷ with_image images page bytes)
-            ≡ set (image ∷ images) (cond (not test) (1 + position_or_len (λ image. eqb image.page page) images) 0) (record { page = page; bytes = bytes })
+        ≡ set (image ∷ images) (cond (not test) (1 + position_or_len (λ image. eqb image.page page) images) 0) (record { page = page; bytes = bytes })
     by_test true there rest = refl
     by_test false there rest =
         let n = position_or_len (λ (image : PageImage). eqb image.page page) images in
@@ -42,9 +41,9 @@ put_new (image ∷ images) page bytes none = by_test (eqb image.page page) none 
   where
     by_test : (test : Bool) → length (image ∷ images) ≤ cond (not test) (1 + position_or_len (λ image. eqb image.page page) images) 0
         → (length images ≤ position_or_len (λ image. eqb image.page page) images
-            → with_image images page bytes ≡ images ++ record { page = page; bytes = bytes } ∷ [])
+        → with_image images page bytes ≡ images ++ record { page = page; bytes = bytes } ∷ [])
         → cond test (record { page = page; bytes = bytes } ∷ images) (image ∷ with_image images page bytes)
-            ≡ image ∷ (images ++ record { page = page; bytes = bytes } ∷ [])
+        ≡ image ∷ (images ++ record { page = page; bytes = bytes } ∷ [])
     by_test true none rest = absurd (omega arith)
     by_test false none rest = ap (λ (others : List PageImage). image ∷ others) (rest (omega arith))
 
@@ -74,9 +73,9 @@ seat_put (seat ∷ seats) new there = by_test (eqb seat.session new.session) the
   where
     by_test : (test : Bool) → cond (not test) (1 + position_or_len (λ one. eqb one.session new.session) seats) 0 < length (seat ∷ seats)
         → (position_or_len (λ one. eqb one.session new.session) seats < length seats
-            → with_seat seats new ≡ set seats (position_or_len (λ one. eqb one.session new.session) seats) new)
+        → with_seat seats new ≡ set seats (position_or_len (λ one. eqb one.session new.session) seats) new)
         → cond test (new ∷ seats) (seat ∷ with_seat seats new)
-            ≡ set (seat ∷ seats) (cond (not test) (1 + position_or_len (λ one. eqb one.session new.session) seats) 0) new
+        ≡ set (seat ∷ seats) (cond (not test) (1 + position_or_len (λ one. eqb one.session new.session) seats) 0) new
     by_test true there rest = refl
     by_test false there rest =
         let n = position_or_len (λ (one : Seat). eqb one.session new.session) seats in
@@ -107,20 +106,20 @@ facts_there (seat ∷ seats) session d there = by_test (eqb seat.session session
     by_test : (test : Bool) → eqb seat.session session ≡ test
         → cond (not test) (1 + position_or_len (λ one. eqb one.session session) seats) 0 < length (seat ∷ seats)
         → (position_or_len (λ one. eqb one.session session) seats < length seats
-            → (state_of seats session ≡ (get_or seats (position_or_len (λ one. eqb one.session session) seats) d).state)
-            × (begun_of seats session ≡ (get_or seats (position_or_len (λ one. eqb one.session session) seats) d).begun)
-            × ((get_or seats (position_or_len (λ one. eqb one.session session) seats) d).session ≡ session))
+        → (state_of seats session ≡ (get_or seats (position_or_len (λ one. eqb one.session session) seats) d).state)
+        × (begun_of seats session ≡ (get_or seats (position_or_len (λ one. eqb one.session session) seats) d).begun)
+        × ((get_or seats (position_or_len (λ one. eqb one.session session) seats) d).session ≡ session))
         → (cond test seat.state (state_of seats session)
-            ≡ (get_or (seat ∷ seats) (cond (not test) (1 + position_or_len (λ one. eqb one.session session) seats) 0) d).state)
+        ≡ (get_or (seat ∷ seats) (cond (not test) (1 + position_or_len (λ one. eqb one.session session) seats) 0) d).state)
         × (cond test seat.begun (begun_of seats session)
-            ≡ (get_or (seat ∷ seats) (cond (not test) (1 + position_or_len (λ one. eqb one.session session) seats) 0) d).begun)
+        ≡ (get_or (seat ∷ seats) (cond (not test) (1 + position_or_len (λ one. eqb one.session session) seats) 0) d).begun)
         × ((get_or (seat ∷ seats) (cond (not test) (1 + position_or_len (λ one. eqb one.session session) seats) 0) d).session ≡ session)
     by_test true is there rest = (refl, refl, eqb-true seat.session session is)
     by_test false is there rest =
         let n = position_or_len (λ (one : Seat). eqb one.session session) seats in
         let more : 1 + n ≡ suc n = omega arith in
         subst (λ (k : ℕ). (state_of seats session ≡ (get_or (seat ∷ seats) k d).state)
-            × (begun_of seats session ≡ (get_or (seat ∷ seats) k d).begun) × ((get_or (seat ∷ seats) k d).session ≡ session)) (sym more)
+        × (begun_of seats session ≡ (get_or (seat ∷ seats) k d).begun) × ((get_or (seat ∷ seats) k d).session ≡ session)) (sym more)
         (rest (omega arith))
 
 facts_absent : (seats : List Seat) (session : ℕ) → length seats ≤ place session seats
@@ -131,7 +130,7 @@ facts_absent (seat ∷ seats) session none = by_test (eqb seat.session session) 
   where
     by_test : (test : Bool) → length (seat ∷ seats) ≤ cond (not test) (1 + position_or_len (λ one. eqb one.session session) seats) 0
         → (length seats ≤ position_or_len (λ one. eqb one.session session) seats
-            → (state_of seats session ≡ Out) × (begun_of seats session ≡ 0))
+        → (state_of seats session ≡ Out) × (begun_of seats session ≡ 0))
         → (cond test seat.state (state_of seats session) ≡ Out) × (cond test seat.begun (begun_of seats session) ≡ 0)
     by_test true none rest = absurd (omega arith)
     by_test false none rest = rest (omega arith)

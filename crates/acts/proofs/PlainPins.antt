@@ -28,7 +28,7 @@ all_with P xs x ys here all =
 pub all_without : {X : Type 0} (P : X → Type 0) (xs : List X) (x : X) (ys : List X) → All P (xs ++ x ∷ ys) → All P (xs ++ ys)
 all_without P xs x ys all =
     All-append P xs ys (front_all P xs (x ∷ ys) all)
-        (λ k d within. rw add-one at (back_all P xs (x ∷ ys) all (k + 1) d (omega arith)))
+    (λ k d within. rw add-one at (back_all P xs (x ∷ ys) all (k + 1) d (omega arith)))
 
 -- an element of a list, whatever stands for one past its end
 pub same_element : {X : Type 0} (xs : List X) (i : ℕ) (d e : X) → i < length xs → get_or xs i d ≡ get_or xs i e
@@ -39,22 +39,24 @@ same_element xs i d e within =
 
 -- the pages that stand at the number of the newest map are the newest map
 pub newest_is : (plain : PlainState) (n : ℕ) (pages : PageMap) → IsPlain plain → n ≡ length plain.history
-  → pages ≡ get_or plain.maps n pages → pages ≡ newest_of plain
+    → pages ≡ get_or plain.maps n pages → pages ≡ newest_of plain
 newest_is plain n pages whole number found =
     found ∙ ap (λ (k : ℕ). get_or plain.maps k pages) number
     ∙ same_element plain.maps (length plain.history) pages [] (omega (arith, whole.count))
 
 -- a pin of the newest map is added
 pub adds_pin : (plain : PlainState) (pin : Pin) → pin.n ≡ length plain.history → pin.size ≡ length (newest_of plain)
-  → AddsPin PlainLive (λ (p : PlainState) (q : Pin). slice_get p.maps q.n) plain pin plain
+    → AddsPin PlainLive (λ (p : PlainState) (q : Pin). slice_get p.maps q.n) plain pin plain
 adds_pin plain pin n size = record {
-    added = λ before after live.
-        (live.0, all_with (Holds plain) before pin after (record { n = omega (arith, n); size = rw n size }) live.1);
-    maps = λ other live. refl }
+  added = λ before after live.
+      (live.0, all_with (Holds plain) before pin after (record { n = omega (arith, n); size = rw n size }) live.1);
+  maps = λ other live. refl;
+}
 
 -- a pin is taken out
 pub takes_pin : (plain : PlainState) (pin : Pin)
-  → TakesPin PlainLive (λ (p : PlainState) (q : Pin). slice_get p.maps q.n) plain pin plain
+    → TakesPin PlainLive (λ (p : PlainState) (q : Pin). slice_get p.maps q.n) plain pin plain
 takes_pin plain pin = record {
-    taken = λ before after live. (live.0, all_without (Holds plain) before pin after live.1);
-    maps = λ other live. refl }
+  taken = λ before after live. (live.0, all_without (Holds plain) before pin after live.1);
+  maps = λ other live. refl;
+}

@@ -68,7 +68,7 @@ pin_there (seat ∷ seats) session pin there = elim (cases_eq seat.session sessi
   | inr apart ↦
       (let is : state_of (seat ∷ seats) session ≡ state_of seats session = rw (ne_eqb seat.session session apart) refl in
       Contains-append_right (pins_in seat.state) (pins_of seats) pin
-          (pin_there seats session pin (subst (λ (s : State). Contains (pins_in s) pin) is there)))
+      (pin_there seats session pin (subst (λ (s : State). Contains (pins_in s) pin) is there)))
 ]
 
 -- where all are sound, each session's transaction is
@@ -81,5 +81,5 @@ sound_at page_size (seat ∷ seats) session sound = elim (cases_eq seat.session 
   | inr apart ↦
       (let is : state_of seats session ≡ state_of (seat ∷ seats) session = rw (ne_eqb seat.session session apart) refl in
       subst (IsSoundState page_size) is
-          (sound_at page_size seats session (All-tail (λ (s : Seat). IsSoundState page_size s.state) seat seats sound)))
+      (sound_at page_size seats session (All-tail (λ (s : Seat). IsSoundState page_size s.state) seat seats sound)))
 ]

@@ -1,7 +1,7 @@
 -- What an act on one seat means for the list of seats and the pins in it.
-use Rattle.std.proofs.Common.{◌≡◌, ℕ, ◌+◌, ◌<◌, ◌≤◌, List, [], ◌∷◌, ◌++◌, length, set, get_or, take, drop, eqb, Option, Some, None, Result, Ok, Err, zero, suc, refl, sym, subst, ap, ◌∙◌, arith, append_assoc}
-use Rattle.std.specs.Prelude.{Contains, All, IfOk}
-use Rattle.std.specs.List.{position, flat_map}
+use Rattle.std.proofs.Common.{◌≡◌, ℕ, ◌<◌, List, [], ◌∷◌, ◌++◌, length, set, get_or, take, drop, eqb, Option, Some, None, Result, Ok, Err, suc, refl, sym, subst, ap, ◌∙◌, append_assoc}
+use Rattle.std.specs.Prelude.{Contains, IfOk}
+use Rattle.std.specs.List.{position}
 use Rattle.std.specs.declared.alloc.AllocError.{AllocError}
 use Rattle.std.proofs.lemmas.List.{set-get_or, set_split, set_at, append-nil, get_or_default}
 use Rattle.std.proofs.Math.Seq.{get_or-append_seam}
@@ -11,19 +11,16 @@ use Rattle.page_spec.specs.PageMap.{PageMap}
 use Rattle.run_spec.specs.declared.pins.Pin.{Pin}
 use Rattle.run_spec.specs.declared.lines.Told.{Told}
 use Rattle.run_spec.specs.declared.lines.Told.TheVariants as reply
-use Rattle.run_spec.specs.declared.lines.Act.TheVariants as act
 use Rattle.run_spec.specs.Logs.{one_more}
 use Rattle.run_spec.specs.Seen.{Seen}
-use Rattle.page_face.specs.Pins.{IsLive}
 use Rattle.acts.specs.declared.seats.Seat.{Seat}
 use Rattle.acts.specs.declared.seats.State.{State}
 use Rattle.acts.specs.declared.seats.State.TheVariants.{Out, Open, Refused}
-use Rattle.acts.specs.declared.seats.Transaction.{Transaction}
 use Rattle.acts.specs.declared.turns.Deed.{Deed}
 use Rattle.acts.specs.declared.turns.Deed.TheVariants.{Read, Write, Commit, Rollback}
-use Rattle.acts.specs.Pagers.{Between, Acts, BeginActs, ReadActs, WriteActs, CommitActs, RollbackActs, state_of, begun_of, with_seat, with_state, pins_in, pins_of, new_transaction}
+use Rattle.acts.specs.Pagers.{Between, Acts, BeginActs, ReadActs, WriteActs, CommitActs, RollbackActs, state_of, begun_of, with_seat, pins_in, pins_of, new_transaction}
 use Rattle.acts.specs.Turns.{act_of, Moves, AllLive, Stays, HasBegun, IsBegun}
-use Rattle.acts.proofs.Places.{IsSeated, IsUnseated, seated, unseated}
+use Rattle.acts.proofs.Places.{IsSeated, seated, unseated}
 
 -- the pins of all sessions, once one seat is another
 pins_set : (seats : List Seat) (at : ℕ) (new : Seat) → at < length seats
@@ -44,12 +41,14 @@ pub live_there : {E : Type 0} (live : E → List Pin → Type 0) (engine : E) (s
 live_there live engine seats session at seat found item lives = λ k d within.
     (let place = seated seats session at found in
     let pin = get_or (pins_in seat.state) k d in
-    let here : Contains (pins_in seat.state) pin = (k, within, get_or_default (pins_in seat.state) k pin d within) in
-    (pins_of seats ++ lives.0, lives.1,
+    let here : Contains (pins_in seat.state) pin = (k, within, get_or_default (pins_in seat.state) k pin d within) in (
+      pins_of seats ++ lives.0,
+      lives.1,
       Contains-append_left (pins_of seats) lives.0 pin
-      (subst (λ (pins : List Pin). Contains pins pin) (sym (pins_split seats at seat place.within item))
-      (Contains-append_right (pins_of (take at seats)) (pins_in seat.state ++ pins_of (drop (suc at) seats)) pin
-      (Contains-append_left (pins_in seat.state) (pins_of (drop (suc at) seats)) pin here)))))
+          (subst (λ (pins : List Pin). Contains pins pin) (sym (pins_split seats at seat place.within item))
+          (Contains-append_right (pins_of (take at seats)) (pins_in seat.state ++ pins_of (drop (suc at) seats)) pin
+          (Contains-append_left (pins_in seat.state) (pins_of (drop (suc at) seats)) pin here))),
+    ))
 
 -- a session without a seat is in no transaction
 pub none_acts : (engine : Between) (seats : List Seat) (session : ℕ) (deed : Deed) → position (λ seat. eqb seat.session session) seats ≡ None
@@ -92,7 +91,7 @@ pub seat_acts : (engine : Between) (told : Result Told AllocError) (seats : List
     → position (λ seat. eqb seat.session session) seats ≡ Some at → seat ≡ get_or seats at seat
     → new.session ≡ seat.session → new.begun ≡ seat.begun
     → IfOk told (λ told. (before after : List Seat) → Moves before seat.session seat.begun seat.state new.state after
-        → Acts engine before (act_of seat.session deed) told after)
+    → Acts engine before (act_of seat.session deed) told after)
     → IfOk told (λ told. Acts engine seats (act_of session deed) told (set seats at new))
 seat_acts engine (Err why) seats session at seat new deed found item same_session same_begun acts = tt
 seat_acts engine (Ok told) seats session at seat new deed found item same_session same_begun acts =
@@ -136,7 +135,7 @@ seat_stays seen live map_at begins free alone loans old new seats session at sea
     subst (λ (pins : List Pin). Stays seen live map_at begins free alone loans old pins new (pins_of (set seats at turned)))
     (sym (pins_split seats at seat place.within item))
     (subst (λ (pins : List Pin). Stays seen live map_at begins free alone loans old
-        (pins_of (take at seats) ++ (pins_in seat.state ++ pins_of (drop (suc at) seats))) new pins)
+    (pins_of (take at seats) ++ (pins_in seat.state ++ pins_of (drop (suc at) seats))) new pins)
     (sym (pins_set seats at turned place.within))
     (wider seen live map_at begins free alone loans old (pins_in seat.state) new (pins_in turned.state)
     (pins_of (take at seats)) (pins_of (drop (suc at) seats)) stays))
@@ -163,21 +162,30 @@ begin_acts engine seats session at seat new told found item begun =
   where
     place : IsSeated seats session at
     place = seated seats session at found
+
     is : seat.session ≡ session
     is = ap (λ (one : Seat). one.session) item ∙ place.session_is seat
+
     begun_is : begun_of seats session ≡ seat.begun
     begun_is = place.begun seat ∙ ap (λ (one : Seat). one.begun) (sym item)
+
     stands : new ≡ seat → set seats at new ≡ seats
     stands same = ap (set seats at) (same ∙ item) ∙ set-get_or seats at seat
+
     begun_seat : Pin → Seat
     begun_seat pin = record { session = session; begun = one_more (begun_of seats session); state = Open (new_transaction pin) }
+
     put : (pin : Pin) → new ≡ record { session = seat.session; begun = one_more seat.begun; state = Open (new_transaction pin) }
         → set seats at new ≡ with_seat seats (record {
-            session = session; begun = one_more (begun_of seats session); state = Open (new_transaction pin) })
+          session = session;
+          begun = one_more (begun_of seats session);
+          state = Open (new_transaction pin);
+        })
     put pin made =
         ap (set seats at) (made ∙ seat_is (record { session = seat.session; begun = one_more seat.begun; state = Open (new_transaction pin) })
-            session (one_more (begun_of seats session)) (Open (new_transaction pin)) is (ap one_more (sym begun_is)) refl)
+        session (one_more (begun_of seats session)) (Open (new_transaction pin)) is (ap one_more (sym begun_is)) refl)
         ∙ sym (place.put (record { session = session; begun = one_more (begun_of seats session); state = Open (new_transaction pin) }) refl)
+
     by_state : (state : State) → IsBegun engine seat new told state → BeginActs engine session seats (set seats at new) told state
     by_state Out began = (began.0, (began.1.0, began.1.1, put began.1.0 began.1.2))
     by_state (Open transaction) began = (began.0, stands began.1, began.2)
@@ -189,12 +197,17 @@ pub new_acts : (engine : Between) (seats : List Seat) (session : ℕ) (seat new 
     → HasBegun engine seat new → BeginActs engine session seats (seats ++ new ∷ []) reply.Ok (state_of seats session)
 new_acts engine seats session seat new none blank (pin, found, made) =
     let place = unseated seats session none in
-    subst (λ (state : State). BeginActs engine session seats (seats ++ new ∷ []) reply.Ok state) (sym place.state)
-    (refl, (pin, found,
-      ap (λ (one : Seat). seats ++ one ∷ []) (made ∙ seat_is (record { session = seat.session; begun = one_more seat.begun; state = Open (new_transaction pin) })
-          session (one_more (begun_of seats session)) (Open (new_transaction pin)) (ap (λ (one : Seat). one.session) blank)
-          (ap one_more (ap (λ (one : Seat). one.begun) blank ∙ sym place.begun)) refl)
-      ∙ sym (place.put (record { session = session; begun = one_more (begun_of seats session); state = Open (new_transaction pin) }) refl)))
+    subst (λ (state : State). BeginActs engine session seats (seats ++ new ∷ []) reply.Ok state) (sym place.state) (
+      refl,
+      (
+        pin,
+        found,
+        ap (λ (one : Seat). seats ++ one ∷ []) (made ∙ seat_is (record { session = seat.session; begun = one_more seat.begun; state = Open (new_transaction pin) })
+            session (one_more (begun_of seats session)) (Open (new_transaction pin)) (ap (λ (one : Seat). one.session) blank)
+            (ap one_more (ap (λ (one : Seat). one.begun) blank ∙ sym place.begun)) refl)
+            ∙ sym (place.put (record { session = session; begun = one_more (begun_of seats session); state = Open (new_transaction pin) }) refl),
+      ),
+    )
 
 -- the seat that was put at the end
 pushed_item : (seats pushed : List Seat) (at : ℕ) (blank seat : Seat) → pushed ≡ seats ++ blank ∷ [] → length seats ≡ at

@@ -71,11 +71,11 @@ stay engine seats after world b same tells = record {
   sessions = λ s.
       let there : state_of after s ≡ state_of seats s = ap (λ (list : List Seat). state_of list s) same in
       let maps : (pin : Pin) → Contains (pins_in (state_of seats s)) pin → engine.map_after pin ≡ engine.map_before pin = λ pin held.
-          let old : Contains (pins_of seats) pin = pin_there seats s pin held in
-          b.maps pin (subst (λ (list : List Seat). Contains (pins_of list) pin) (sym same) old) old in
+      let old : Contains (pins_of seats) pin = pin_there seats s pin held in
+      b.maps pin (subst (λ (list : List Seat). Contains (pins_of list) pin) (sym same) old) old in
       subst (λ (state : State). Matches engine.map_after world.maps state (world.sessions s)) (sym there)
-          (matches_keep engine.map_before engine.map_after world.maps world.maps (state_of seats s) (world.sessions s)
-              (extends_same world.maps) maps (b.stands.sessions s));
+      (matches_keep engine.map_before engine.map_after world.maps world.maps (state_of seats s) (world.sessions s)
+      (extends_same world.maps) maps (b.stands.sessions s));
   begun = λ s. b.stands.begun s ∙ ap (λ (list : List Seat). begun_of list s) (sym same);
 }
 
@@ -91,23 +91,23 @@ move engine seats after world next one session b same tells extends matches sess
   sessions = λ s. elim (cases_eq one.session s) [
     | inl is ↦
         (let state : state_of after s ≡ one.state =
-            ap (λ (list : List Seat). state_of list s) same ∙ ap (state_of (with_seat seats one)) (sym is) ∙ state_of-same seats one in
+        ap (λ (list : List Seat). state_of list s) same ∙ ap (state_of (with_seat seats one)) (sym is) ∙ state_of-same seats one in
         let moved : next.sessions s ≡ session =
-            sessions s ∙ ap (λ (test : Bool). cond test session (world.sessions s)) (eq-eqb s one.session (sym is)) in
+        sessions s ∙ ap (λ (test : Bool). cond test session (world.sessions s)) (eq-eqb s one.session (sym is)) in
         subst (λ (x : State). Matches engine.map_after next.maps x (next.sessions s)) (sym state)
-            (subst (Matches engine.map_after next.maps one.state) (sym moved) matches))
+        (subst (Matches engine.map_after next.maps one.state) (sym moved) matches))
     | inr apart ↦
         (let put : state_of (with_seat seats one) s ≡ state_of seats s = state_of-other seats one s apart in
         let state : state_of after s ≡ state_of seats s = ap (λ (list : List Seat). state_of list s) same ∙ put in
         let kept : next.sessions s ≡ world.sessions s =
-            sessions s ∙ ap (λ (test : Bool). cond test session (world.sessions s)) (ne_eqb s one.session (λ e. apart (sym e))) in
+        sessions s ∙ ap (λ (test : Bool). cond test session (world.sessions s)) (ne_eqb s one.session (λ e. apart (sym e))) in
         let maps : (pin : Pin) → Contains (pins_in (state_of seats s)) pin → engine.map_after pin ≡ engine.map_before pin = λ pin held.
-            b.maps pin (pin_there after s pin (subst (λ (x : State). Contains (pins_in x) pin) (sym state) held))
-                (pin_there seats s pin held) in
+        b.maps pin (pin_there after s pin (subst (λ (x : State). Contains (pins_in x) pin) (sym state) held))
+        (pin_there seats s pin held) in
         subst (λ (x : State). Matches engine.map_after next.maps x (next.sessions s)) (sym state)
-            (subst (Matches engine.map_after next.maps (state_of seats s)) (sym kept)
-                (matches_keep engine.map_before engine.map_after world.maps next.maps (state_of seats s) (world.sessions s)
-                    extends maps (b.stands.sessions s))))
+        (subst (Matches engine.map_after next.maps (state_of seats s)) (sym kept)
+        (matches_keep engine.map_before engine.map_after world.maps next.maps (state_of seats s) (world.sessions s)
+        extends maps (b.stands.sessions s))))
   ];
   begun = λ s. elim (cases_eq one.session s) [
     | inl is ↦
@@ -128,7 +128,7 @@ turn : (engine : Between) (seats after : List Seat) (world next : World) (s : �
     → StandsAt engine.new engine.map_after after next
 turn engine seats after world next s state session b same tells extends matches sessions begun =
     move engine seats after world next (record { session = s; begun = begun_of seats s; state = state }) session b same tells extends matches
-        sessions (begun s ∙ b.stands.begun s) (λ other apart. begun other)
+    sessions (begun s ∙ b.stands.begun s) (λ other apart. begun other)
 
 -- an engine that didn't change tells what it told
 tells_same : (engine : Between) (seats after : List Seat) (world : World) → Stands engine seats after world → engine.new ≡ engine.old
@@ -151,11 +151,11 @@ pin_stays : (engine : Between) (seats after : List Seat) (world : World) (s : �
 pin_stays engine seats after world s state before pin b is same old new stands =
     let one : Seat = record { session = s; begun = begun_of seats s; state = state } in
     let there : state_of after s ≡ state =
-        ap (λ (list : List Seat). state_of list s) same ∙ state_of-same seats one in
+    ap (λ (list : List Seat). state_of list s) same ∙ state_of-same seats one in
     pin_keeps engine.map_before engine.map_after world.maps world.maps pin (extends_same world.maps)
-        (b.maps pin (pin_there after s pin (subst (λ (x : State). Contains (pins_in x) pin) (sym there) new))
-            (pin_there seats s pin (subst (λ (x : State). Contains (pins_in x) pin) (sym is) old)))
-        stands
+    (b.maps pin (pin_there after s pin (subst (λ (x : State). Contains (pins_in x) pin) (sym there) new))
+    (pin_there seats s pin (subst (λ (x : State). Contains (pins_in x) pin) (sym is) old)))
+    stands
 
 -- BEGIN
 begin_acts : (engine : Between) (seats after : List Seat) (world : World) (s : ℕ) (told : Told) (state : State) (session : SessionState)
@@ -168,24 +168,26 @@ begin_acts engine seats after world s told seat.Out run.Out b matches acts =
     let tells = b.stands.tells in
     let old : found.0 ≡ engine.old = found.1.nobody b.alone in
     let new : engine.new ≡ record engine.old { logs = with_reader engine.old.logs pin.lock } =
-        found.2.2.nobody b.alone ∙ begins.after_is ∙ ap (λ (seen : Seen). record seen { logs = with_reader seen.logs pin.lock }) old in
+    found.2.2.nobody b.alone ∙ begins.after_is ∙ ap (λ (seen : Seen). record seen { logs = with_reader seen.logs pin.lock }) old in
     let none : with_reader engine.old.logs pin.lock ≡ None = ap (λ (logs : Option LogState). with_reader logs pin.lock) tells.logs in
     let n : pin.n ≡ length world.history =
-        begins.n ∙ ap (λ (seen : Seen). length seen.history) old ∙ ap length tells.history_is in
+    begins.n ∙ ap (λ (seen : Seen). length seen.history) old ∙ ap length tells.history_is in
     let newest : get_or world.maps pin.n [] ≡ newest_map world = ap (λ (k : ℕ). get_or world.maps k []) n in
     let size : pin.size ≡ length (get_or world.maps pin.n []) =
-        begins.size ∙ ap (λ (seen : Seen). seen.size) old ∙ tells.size ∙ sym tells.store.count ∙ ap length (sym newest) in
+    begins.size ∙ ap (λ (seen : Seen). seen.size) old ∙ tells.size ∙ sym tells.store.count ∙ ap length (sym newest) in
     let map : engine.map_after pin ≡ Some (get_or world.maps pin.n []) =
-        found.2.3 ∙ ap (λ (seen : Seen). seen.newest) old ∙ tells.newest ∙ ap Some (sym newest) in
-    (acts.0,
-     move engine seats after world (run.begin world s).world _ _ b acts.1.2
-        (tells_as engine.old engine.new world.maps world.history (with_reader engine.old.logs pin.lock) engine.old.faults new none tells.quiet tells)
-        (extends_same world.maps)
-        (record { snap = sym n; reads = refl; changed = refl; said = refl; wrote = refl },
-         record { n = omega (arith, n, tells.count); size = size; map = map })
-        (λ other. refl)
-        (ap (λ (test : Bool). cond test (one_more (world.begun s)) (world.begun s)) (eq-eqb s s refl) ∙ ap one_more (b.stands.begun s))
-        (λ other apart. ap (λ (test : Bool). cond test (one_more (world.begun s)) (world.begun other)) (ne_eqb other s (λ e. apart (sym e)))))
+    found.2.3 ∙ ap (λ (seen : Seen). seen.newest) old ∙ tells.newest ∙ ap Some (sym newest) in (
+      acts.0,
+      move engine seats after world (run.begin world s).world _ _ b acts.1.2
+          (tells_as engine.old engine.new world.maps world.history (with_reader engine.old.logs pin.lock) engine.old.faults new none tells.quiet tells)
+          (extends_same world.maps) (
+            record { snap = sym n; reads = refl; changed = refl; said = refl; wrote = refl },
+            record { n = omega (arith, n, tells.count); size = size; map = map },
+          )
+          (λ other. refl)
+          (ap (λ (test : Bool). cond test (one_more (world.begun s)) (world.begun s)) (eq-eqb s s refl) ∙ ap one_more (b.stands.begun s))
+          (λ other apart. ap (λ (test : Bool). cond test (one_more (world.begun s)) (world.begun other)) (ne_eqb other s (λ e. apart (sym e)))),
+    )
 begin_acts engine seats after world s told (seat.Open held) (run.Open transaction) b matches acts =
     rests engine seats after world reply.InTransaction told b acts
 begin_acts engine seats after world s told (seat.Refused pin) (run.Refused transaction) b matches acts =
@@ -203,7 +205,7 @@ pub tells_quiet : (engine : Between) (seats after : List Seat) (world : World) �
 tells_quiet engine seats after world b found =
     let old : found.0 ≡ engine.old = found.1.nobody b.alone in
     let new : engine.new ≡ record engine.old { faults = engine.new.faults } =
-        found.2.1 ∙ ap (λ (seen : Seen). record seen { faults = engine.new.faults }) old in
+    found.2.1 ∙ ap (λ (seen : Seen). record seen { faults = engine.new.faults }) old in
     tells_as engine.old engine.new world.maps world.history engine.old.logs engine.new.faults new b.stands.tells.logs b.quiet b.stands.tells
 
 -- the disk doesn't fail
@@ -220,32 +222,46 @@ read_open : (engine : Between) (seats after : List Seat) (world : World) (s page
     → ReadOpen engine s page seats after told held own → Leads engine after told (run.read world s transaction page)
 read_open engine seats after world s page told held transaction (Some bytes) b is own same pin acts =
     let byte : slice_index (run.shown world transaction page) 0 ≡ slice_index bytes 0 =
-        ap (λ (image : Option (List ℕ)). slice_index (unwrap_or image (page_at (map_number world transaction.snap) page)) 0) own in
-    let reads : run.reads_with transaction page ≡ transaction.reads = rw own refl in
-    (acts.0 ∙ ap reply.Byte (sym byte),
-     turn engine seats after world (run.read world s transaction page).world s _ _ b acts.1
-        (tells_same engine seats after world b acts.2) (extends_same world.maps)
-        (record { snap = same.snap; reads = reads ∙ same.reads; changed = same.changed;
-            said = ap (λ (said : List (List ℕ)). said ++ read_text page ∷ []) same.said; wrote = same.wrote },
-         pin_stays engine seats after world s _ (seat.Open held) held.pin b is acts.1 (0, omega arith, refl) (0, omega arith, refl) pin)
-        (λ other. refl) (λ other. refl))
+    ap (λ (image : Option (List ℕ)). slice_index (unwrap_or image (page_at (map_number world transaction.snap) page)) 0) own in
+    let reads : run.reads_with transaction page ≡ transaction.reads = rw own refl in (
+      acts.0 ∙ ap reply.Byte (sym byte),
+      turn engine seats after world (run.read world s transaction page).world s _ _ b acts.1
+          (tells_same engine seats after world b acts.2) (extends_same world.maps) (
+            record {
+              snap = same.snap;
+              reads = reads ∙ same.reads;
+              changed = same.changed;
+              said = ap (λ (said : List (List ℕ)). said ++ read_text page ∷ []) same.said;
+              wrote = same.wrote;
+            },
+            pin_stays engine seats after world s _ (seat.Open held) held.pin b is acts.1 (0, omega arith, refl) (0, omega arith, refl) pin,
+          )
+          (λ other. refl) (λ other. refl),
+    )
 read_open engine seats after world s page told held transaction None b is own same pin acts = elim acts [
   | inl fails ↦ absurd (never_fails engine seats after world b fails.2)
   | inr answers ↦
       (let map : engine.map_before held.pin ≡ Some (get_or world.maps held.pin.n []) = pin.map in
       let read : answers.0 ≡ slice_index (page_at (get_or world.maps held.pin.n []) page) 0 =
-          subst (λ (found : Option PageMap). IfSome found (λ (pages : PageMap). answers.0 ≡ slice_index (page_at pages page) 0)) map answers.2 in
+      subst (λ (found : Option PageMap). IfSome found (λ (pages : PageMap). answers.0 ≡ slice_index (page_at pages page) 0)) map answers.2 in
       let shown : slice_index (run.shown world transaction page) 0 ≡ slice_index (page_at (get_or world.maps held.pin.n []) page) 0 =
-          ap (λ (image : Option (List ℕ)). slice_index (unwrap_or image (page_at (map_number world transaction.snap) page)) 0) own
-          ∙ ap (λ (n : ℕ). slice_index (page_at (get_or world.maps n []) page) 0) same.snap in
-      let reads : run.reads_with transaction page ≡ with_page transaction.reads page = rw own refl in
-      (answers.1 ∙ ap reply.Byte (read ∙ sym shown),
-       turn engine seats after world (run.read world s transaction page).world s _ _ b answers.3
-          (tells_quiet engine seats after world b answers.4) (extends_same world.maps)
-          (record { snap = same.snap; reads = reads ∙ ap (λ (pages : List ℕ). with_page pages page) same.reads; changed = same.changed;
-              said = ap (λ (said : List (List ℕ)). said ++ read_text page ∷ []) same.said; wrote = same.wrote },
-           pin_stays engine seats after world s _ (seat.Open held) held.pin b is answers.3 (0, omega arith, refl) (0, omega arith, refl) pin)
-          (λ other. refl) (λ other. refl)))
+      ap (λ (image : Option (List ℕ)). slice_index (unwrap_or image (page_at (map_number world transaction.snap) page)) 0) own
+      ∙ ap (λ (n : ℕ). slice_index (page_at (get_or world.maps n []) page) 0) same.snap in
+      let reads : run.reads_with transaction page ≡ with_page transaction.reads page = rw own refl in (
+        answers.1 ∙ ap reply.Byte (read ∙ sym shown),
+        turn engine seats after world (run.read world s transaction page).world s _ _ b answers.3
+            (tells_quiet engine seats after world b answers.4) (extends_same world.maps) (
+              record {
+                snap = same.snap;
+                reads = reads ∙ ap (λ (pages : List ℕ). with_page pages page) same.reads;
+                changed = same.changed;
+                said = ap (λ (said : List (List ℕ)). said ++ read_text page ∷ []) same.said;
+                wrote = same.wrote;
+              },
+              pin_stays engine seats after world s _ (seat.Open held) held.pin b is answers.3 (0, omega arith, refl) (0, omega arith, refl) pin,
+            )
+            (λ other. refl) (λ other. refl),
+      ))
 ]
 
 -- READ
@@ -256,7 +272,7 @@ read_acts engine seats after world s page told seat.Out run.Out b is matches act
     rests engine seats after world reply.NoTransaction told b acts
 read_acts engine seats after world s page told (seat.Open held) (run.Open transaction) b is matches acts =
     read_open engine seats after world s page told held transaction (image_of held.changed page) b is
-        (ap (λ (images : List PageImage). image_of images page) matches.0.changed) matches.0 matches.1 acts
+    (ap (λ (images : List PageImage). image_of images page) matches.0.changed) matches.0 matches.1 acts
 read_acts engine seats after world s page told (seat.Refused pin) (run.Refused transaction) b is matches acts =
     rests engine seats after world reply.MustRollBack told b acts
 read_acts engine seats after world s page told seat.Out (run.Open transaction) b is matches acts = absurd matches
@@ -276,16 +292,23 @@ write_acts engine seats after world s page byte told seat.Out run.Out b is match
 write_acts engine seats after world s page byte told (seat.Open held) (run.Open transaction) b is matches acts =
     let same = matches.0 in
     let changed : with_image transaction.changed page (replicate (page_size_of (newest_map world)) byte)
-            ≡ with_image held.changed page (replicate engine.old.page_size byte) =
-        ap (λ (images : List PageImage). with_image images page (replicate (page_size_of (newest_map world)) byte)) same.changed
-        ∙ ap (λ (size : ℕ). with_image held.changed page (replicate size byte)) (sym b.stands.tells.page_size) in
-    (acts.0,
-     turn engine seats after world (run.write world s transaction page byte).world s _ _ b acts.1
-        (tells_same engine seats after world b acts.2) (extends_same world.maps)
-        (record { snap = same.snap; reads = same.reads; changed = changed;
-            said = ap (λ (said : List (List ℕ)). said ++ write_text page byte ∷ []) same.said; wrote = refl },
-         pin_stays engine seats after world s _ (seat.Open held) held.pin b is acts.1 (0, omega arith, refl) (0, omega arith, refl) matches.1)
-        (λ other. refl) (λ other. refl))
+    ≡ with_image held.changed page (replicate engine.old.page_size byte) =
+    ap (λ (images : List PageImage). with_image images page (replicate (page_size_of (newest_map world)) byte)) same.changed
+    ∙ ap (λ (size : ℕ). with_image held.changed page (replicate size byte)) (sym b.stands.tells.page_size) in (
+      acts.0,
+      turn engine seats after world (run.write world s transaction page byte).world s _ _ b acts.1
+          (tells_same engine seats after world b acts.2) (extends_same world.maps) (
+            record {
+              snap = same.snap;
+              reads = same.reads;
+              changed = changed;
+              said = ap (λ (said : List (List ℕ)). said ++ write_text page byte ∷ []) same.said;
+              wrote = refl;
+            },
+            pin_stays engine seats after world s _ (seat.Open held) held.pin b is acts.1 (0, omega arith, refl) (0, omega arith, refl) matches.1,
+          )
+          (λ other. refl) (λ other. refl),
+    )
 write_acts engine seats after world s page byte told (seat.Refused pin) (run.Refused transaction) b is matches acts =
     rests engine seats after world reply.MustRollBack told b acts
 write_acts engine seats after world s page byte told seat.Out (run.Open transaction) b is matches acts = absurd matches
@@ -300,7 +323,7 @@ tells_ended : (engine : Between) (seats after : List Seat) (world : World) (pin 
     → Ends engine.old pin engine.new → TellsOf engine.new world.maps world.history
 tells_ended engine seats after world pin b ends =
     tells_as engine.old engine.new world.maps world.history (without_reader engine.old.logs pin.lock) engine.old.faults ends
-        (ap (λ (logs : Option LogState). without_reader logs pin.lock) b.stands.tells.logs) b.stands.tells.quiet b.stands.tells
+    (ap (λ (logs : Option LogState). without_reader logs pin.lock) b.stands.tells.logs) b.stands.tells.quiet b.stands.tells
 
 -- ROLLBACK
 rollback_acts : (engine : Between) (seats after : List Seat) (world : World) (s : ℕ) (told : Told) (state : State) (session : SessionState)
@@ -308,14 +331,16 @@ rollback_acts : (engine : Between) (seats after : List Seat) (world : World) (s 
     → RollbackActs engine s seats after told state → Leads engine after told (rollback_step world s session)
 rollback_acts engine seats after world s told seat.Out run.Out b matches acts =
     rests engine seats after world reply.NoTransaction told b acts
-rollback_acts engine seats after world s told (seat.Open held) (run.Open transaction) b matches acts =
-    (acts.0,
-     turn engine seats after world (moved world s run.Out reply.Ok).world s seat.Out run.Out b acts.1
-        (tells_ended engine seats after world held.pin b acts.2) (extends_same world.maps) tt (λ other. refl) (λ other. refl))
-rollback_acts engine seats after world s told (seat.Refused pin) (run.Refused transaction) b matches acts =
-    (acts.0,
-     turn engine seats after world (moved world s run.Out reply.Ok).world s seat.Out run.Out b acts.1
-        (tells_ended engine seats after world pin b acts.2) (extends_same world.maps) tt (λ other. refl) (λ other. refl))
+rollback_acts engine seats after world s told (seat.Open held) (run.Open transaction) b matches acts = (
+  acts.0,
+  turn engine seats after world (moved world s run.Out reply.Ok).world s seat.Out run.Out b acts.1
+      (tells_ended engine seats after world held.pin b acts.2) (extends_same world.maps) tt (λ other. refl) (λ other. refl),
+)
+rollback_acts engine seats after world s told (seat.Refused pin) (run.Refused transaction) b matches acts = (
+  acts.0,
+  turn engine seats after world (moved world s run.Out reply.Ok).world s seat.Out run.Out b acts.1
+      (tells_ended engine seats after world pin b acts.2) (extends_same world.maps) tt (λ other. refl) (λ other. refl),
+)
 rollback_acts engine seats after world s told seat.Out (run.Open transaction) b matches acts = absurd matches
 rollback_acts engine seats after world s told seat.Out (run.Refused transaction) b matches acts = absurd matches
 rollback_acts engine seats after world s told (seat.Open held) run.Out b matches acts = absurd matches
@@ -329,7 +354,7 @@ submits : (seats : List Seat) (world : World) (s : ℕ) (held : Transaction) (tr
     → world.begun s ≡ begun_of seats s → submitted_of seats s held ≡ submitted world s transaction
 submits seats world s held transaction map_before same pin begun =
     let base : held.pin.size ≡ length (map_number world transaction.snap) =
-        pin.size ∙ ap (λ (n : ℕ). length (get_or world.maps n [])) (sym same.snap) in
+    pin.size ∙ ap (λ (n : ℕ). length (get_or world.maps n [])) (sym same.snap) in
     let snap = same.snap in
     let reads = same.reads in
     let changed = same.changed in
@@ -343,8 +368,8 @@ commit_is : (world : World) (s : ℕ) (transaction : run.Transaction) → transa
     → commit world s transaction ≡ committed world s transaction
 commit_is world s transaction wrote none =
     ap (λ (test : Bool). cond test
-        (decided world s transaction (conflict Concurrent transaction.reads transaction.snap world.history))
-        (moved world s run.Out (reply.Done (ReadOnly transaction.snap)))) wrote
+    (decided world s transaction (conflict Concurrent transaction.reads transaction.snap world.history))
+    (moved world s run.Out (reply.Done (ReadOnly transaction.snap)))) wrote
     ∙ ap (decided world s transaction) none
 
 -- COMMIT that a later commit bars
@@ -353,8 +378,8 @@ busy_is : (world : World) (s : ℕ) (transaction : run.Transaction) (page number
     → commit world s transaction ≡ moved world s (run.Refused transaction) (reply.Busy page number)
 busy_is world s transaction page number wrote found =
     ap (λ (test : Bool). cond test
-        (decided world s transaction (conflict Concurrent transaction.reads transaction.snap world.history))
-        (moved world s run.Out (reply.Done (ReadOnly transaction.snap)))) wrote
+    (decided world s transaction (conflict Concurrent transaction.reads transaction.snap world.history))
+    (moved world s run.Out (reply.Done (ReadOnly transaction.snap)))) wrote
     ∙ ap (decided world s transaction) found
 
 -- COMMIT of a transaction that wrote nothing
@@ -362,8 +387,8 @@ read_only_is : (world : World) (s : ℕ) (transaction : run.Transaction) → tra
     → commit world s transaction ≡ moved world s run.Out (reply.Done (ReadOnly transaction.snap))
 read_only_is world s transaction wrote =
     ap (λ (test : Bool). cond test
-        (decided world s transaction (conflict Concurrent transaction.reads transaction.snap world.history))
-        (moved world s run.Out (reply.Done (ReadOnly transaction.snap)))) wrote
+    (decided world s transaction (conflict Concurrent transaction.reads transaction.snap world.history))
+    (moved world s run.Out (reply.Done (ReadOnly transaction.snap)))) wrote
 
 -- a session out of its transaction after COMMIT
 committed_acts : (engine : Between) (seats after : List Seat) (world : World) (s : ℕ) (held : Transaction)
@@ -375,43 +400,45 @@ committed_acts : (engine : Between) (seats after : List Seat) (world : World) (s
 committed_acts engine seats after world s held transaction (ReadOnly n) b is same pin done accepts ends put =
     let new : Ends engine.old held.pin engine.new = subst (λ (seen : Seen). Ends seen held.pin engine.new) accepts.2 ends in
     let n_is : n ≡ transaction.snap = accepts.1 ∙ sym same.snap in
-    subst (Leads engine after (reply.Done (ReadOnly n))) (sym (read_only_is world s transaction (same.wrote ∙ accepts.0)))
-        (ap (λ (k : ℕ). reply.Done (ReadOnly k)) n_is,
-         turn engine seats after world (moved world s run.Out (reply.Done (ReadOnly transaction.snap))).world s seat.Out run.Out b put
-            (tells_ended engine seats after world held.pin b new) (extends_same world.maps) tt (λ other. refl) (λ other. refl))
+    subst (Leads engine after (reply.Done (ReadOnly n))) (sym (read_only_is world s transaction (same.wrote ∙ accepts.0))) (
+      ap (λ (k : ℕ). reply.Done (ReadOnly k)) n_is,
+      turn engine seats after world (moved world s run.Out (reply.Done (ReadOnly transaction.snap))).world s seat.Out run.Out b put
+          (tells_ended engine seats after world held.pin b new) (extends_same world.maps) tt (λ other. refl) (λ other. refl),
+    )
 committed_acts engine seats after world s held transaction (At number) b is same pin done accepts ends put =
     let tells = b.stands.tells in
     let asked : Submitted = submitted_of seats s held in
     let asked_is : asked ≡ submitted world s transaction =
-        submits seats world s held transaction engine.map_before same pin (b.stands.begun s) in
+    submits seats world s held transaction engine.map_before same pin (b.stands.begun s) in
     let sound : IsSoundTransaction engine.old.page_size held =
-        subst (IsSoundState engine.old.page_size) is (sound_at engine.old.page_size seats s b.sound) in
+    subst (IsSoundState engine.old.page_size) is (sound_at engine.old.page_size seats s b.sound) in
     let free : conflict Concurrent transaction.reads transaction.snap world.history ≡ None =
-        ap (λ (reads : List ℕ). conflict Concurrent reads transaction.snap world.history) same.reads
-        ∙ ap (λ (n : ℕ). conflict Concurrent held.reads n world.history) same.snap
-        ∙ ap (conflict Concurrent held.reads held.pin.n) (sym tells.history_is)
-        ∙ conflict_none Concurrent held.reads held.pin.n engine.old.history accepts.clear.free in
+    ap (λ (reads : List ℕ). conflict Concurrent reads transaction.snap world.history) same.reads
+    ∙ ap (λ (n : ℕ). conflict Concurrent held.reads n world.history) same.snap
+    ∙ ap (conflict Concurrent held.reads held.pin.n) (sym tells.history_is)
+    ∙ conflict_none Concurrent held.reads held.pin.n engine.old.history accepts.clear.free in
     let none : option_map (λ (logs : LogState). with_frames logs (written asked.change)) engine.old.logs ≡ None =
-        ap (option_map (λ (logs : LogState). with_frames logs (written asked.change))) tells.logs in
+    ap (option_map (λ (logs : LogState). with_frames logs (written asked.change))) tells.logs in
     let done_logs : done.logs ≡ None = ap (λ (seen : Seen). seen.logs) accepts.after_is ∙ none in
     let new_logs : engine.new.logs ≡ None =
-        ap (λ (seen : Seen). seen.logs) ends ∙ ap (λ (logs : Option LogState). without_reader logs held.pin.lock) done_logs in
+    ap (λ (seen : Seen). seen.logs) ends ∙ ap (λ (logs : Option LogState). without_reader logs held.pin.lock) done_logs in
     let told : TellsOf engine.new (world.maps ++ laid (newest_map world) asked.change ∷ []) (world.history ++ commit_of asked ∷ []) =
-        tells_more engine.old engine.new world.maps world.history asked.change (commit_of asked) refl sound.images
-            (ap (λ (seen : Seen). seen.history) ends ∙ ap (λ (seen : Seen). seen.history) accepts.after_is)
-            (ap (λ (seen : Seen). seen.newest) ends ∙ ap (λ (seen : Seen). seen.newest) accepts.after_is)
-            (ap (λ (seen : Seen). seen.size) ends ∙ ap (λ (seen : Seen). seen.size) accepts.after_is)
-            (ap (λ (seen : Seen). seen.page_size) ends ∙ ap (λ (seen : Seen). seen.page_size) accepts.after_is)
-            (ap (λ (seen : Seen). seen.stopped) ends ∙ ap (λ (seen : Seen). seen.stopped) accepts.after_is)
-            b.quiet new_logs tells in
+    tells_more engine.old engine.new world.maps world.history asked.change (commit_of asked) refl sound.images
+    (ap (λ (seen : Seen). seen.history) ends ∙ ap (λ (seen : Seen). seen.history) accepts.after_is)
+    (ap (λ (seen : Seen). seen.newest) ends ∙ ap (λ (seen : Seen). seen.newest) accepts.after_is)
+    (ap (λ (seen : Seen). seen.size) ends ∙ ap (λ (seen : Seen). seen.size) accepts.after_is)
+    (ap (λ (seen : Seen). seen.page_size) ends ∙ ap (λ (seen : Seen). seen.page_size) accepts.after_is)
+    (ap (λ (seen : Seen). seen.stopped) ends ∙ ap (λ (seen : Seen). seen.stopped) accepts.after_is)
+    b.quiet new_logs tells in
     let number_is : number ≡ length world.history + 1 =
-        accepts.number_is ∙ ap (λ (commits : List Commit). length commits + 1) tells.history_is in
-    subst (Leads engine after (reply.Done (At number))) (sym (commit_is world s transaction (same.wrote ∙ accepts.clear.wrote) free))
-        (ap (λ (k : ℕ). reply.Done (At k)) number_is,
-         turn engine seats after world (committed world s transaction).world s seat.Out run.Out b put
-            (subst (λ (one : Submitted). TellsOf engine.new (world.maps ++ laid (newest_map world) one.change ∷ []) (world.history ++ commit_of one ∷ []))
-                asked_is told)
-            (extends_push world.maps (laid (newest_map world) (change_of world transaction))) tt (λ other. refl) (λ other. refl))
+    accepts.number_is ∙ ap (λ (commits : List Commit). length commits + 1) tells.history_is in
+    subst (Leads engine after (reply.Done (At number))) (sym (commit_is world s transaction (same.wrote ∙ accepts.clear.wrote) free)) (
+      ap (λ (k : ℕ). reply.Done (At k)) number_is,
+      turn engine seats after world (committed world s transaction).world s seat.Out run.Out b put
+          (subst (λ (one : Submitted). TellsOf engine.new (world.maps ++ laid (newest_map world) one.change ∷ []) (world.history ++ commit_of one ∷ []))
+          asked_is told)
+          (extends_push world.maps (laid (newest_map world) (change_of world transaction))) tt (λ other. refl) (λ other. refl),
+    )
 
 -- COMMIT of an open transaction
 commit_open : (engine : Between) (seats after : List Seat) (world : World) (s : ℕ) (held : Transaction)
@@ -421,30 +448,33 @@ commit_open : (engine : Between) (seats after : List Seat) (world : World) (s : 
 commit_open engine seats after world s held transaction (reply.Done receipt) b is same pin acts =
     let found = acts.0 in
     let accepts : Accepts engine.old (submitted_of seats s held) receipt found.2.0 =
-        subst (λ (mid : Seen). Accepts mid (submitted_of seats s held) receipt found.2.0) (found.1.nobody b.alone) found.2.1 in
+    subst (λ (mid : Seen). Accepts mid (submitted_of seats s held) receipt found.2.0) (found.1.nobody b.alone) found.2.1 in
     committed_acts engine seats after world s held transaction receipt b is same pin found.2.0 accepts found.2.2 acts.1
 commit_open engine seats after world s held transaction (reply.Busy page number) b is same pin acts =
     let found = acts.0 in
     let tells = b.stands.tells in
     let refuses : Refuses engine.old (submitted_of seats s held) (fault.BusySnapshot page number) engine.new =
-        subst (λ (mid : Seen). Refuses mid (submitted_of seats s held) (fault.BusySnapshot page number) engine.new) (found.1.nobody b.alone) found.2 in
+    subst (λ (mid : Seen). Refuses mid (submitted_of seats s held) (fault.BusySnapshot page number) engine.new) (found.1.nobody b.alone) found.2 in
     let bars : conflict Concurrent transaction.reads transaction.snap world.history ≡ Some (page, number) =
-        ap (λ (reads : List ℕ). conflict Concurrent reads transaction.snap world.history) same.reads
-        ∙ ap (λ (n : ℕ). conflict Concurrent held.reads n world.history) same.snap
-        ∙ ap (conflict Concurrent held.reads held.pin.n) (sym tells.history_is)
-        ∙ conflict_is Concurrent held.reads held.pin.n engine.old.history page number refuses.2 in
-    subst (Leads engine after (reply.Busy page number)) (sym (busy_is world s transaction page number (same.wrote ∙ refuses.0) bars))
-        (refl,
-         turn engine seats after world (moved world s (run.Refused transaction) (reply.Busy page number)).world s
-            (seat.Refused held.pin) (run.Refused transaction) b acts.1
-            (tells_same engine seats after world b refuses.3) (extends_same world.maps)
-            (same.snap, pin_stays engine seats after world s (seat.Refused held.pin) (seat.Open held) held.pin b is acts.1
-                (0, omega arith, refl) (0, omega arith, refl) pin)
-            (λ other. refl) (λ other. refl))
+    ap (λ (reads : List ℕ). conflict Concurrent reads transaction.snap world.history) same.reads
+    ∙ ap (λ (n : ℕ). conflict Concurrent held.reads n world.history) same.snap
+    ∙ ap (conflict Concurrent held.reads held.pin.n) (sym tells.history_is)
+    ∙ conflict_is Concurrent held.reads held.pin.n engine.old.history page number refuses.2 in
+    subst (Leads engine after (reply.Busy page number)) (sym (busy_is world s transaction page number (same.wrote ∙ refuses.0) bars)) (
+      refl,
+      turn engine seats after world (moved world s (run.Refused transaction) (reply.Busy page number)).world s
+          (seat.Refused held.pin) (run.Refused transaction) b acts.1
+          (tells_same engine seats after world b refuses.3) (extends_same world.maps) (
+            same.snap,
+            pin_stays engine seats after world s (seat.Refused held.pin) (seat.Open held) held.pin b is acts.1
+                (0, omega arith, refl) (0, omega arith, refl) pin,
+          )
+          (λ other. refl) (λ other. refl),
+    )
 commit_open engine seats after world s held transaction reply.Disk b is same pin acts =
     let found = acts.0 in
     absurd (never_rose found.0.faults engine.new.faults
-        (ap (λ (seen : Seen). seen.faults) (found.1.nobody b.alone) ∙ b.stands.tells.quiet) b.quiet found.2.1)
+    (ap (λ (seen : Seen). seen.faults) (found.1.nobody b.alone) ∙ b.stands.tells.quiet) b.quiet found.2.1)
 commit_open engine seats after world s held transaction (reply.Stopped log at) b is same pin acts =
     let found = acts.0 in
     let stop = found.2.1 in
@@ -454,9 +484,9 @@ commit_open engine seats after world s held transaction (reply.Stopped log at) b
 commit_open engine seats after world s held transaction (reply.Size pages) b is same pin acts =
     let found = acts.0.1 in
     let sound : IsSoundTransaction engine.old.page_size held =
-        subst (IsSoundState engine.old.page_size) is (sound_at engine.old.page_size seats s b.sound) in
+    subst (IsSoundState engine.old.page_size) is (sound_at engine.old.page_size seats s b.sound) in
     let refuses : Refuses engine.old (submitted_of seats s held) (fault.SizeLimit pages acts.0.0) engine.new =
-        subst (λ (mid : Seen). Refuses mid (submitted_of seats s held) (fault.SizeLimit pages acts.0.0) engine.new) (found.1.nobody b.alone) found.2 in
+    subst (λ (mid : Seen). Refuses mid (submitted_of seats s held) (fault.SizeLimit pages acts.0.0) engine.new) (found.1.nobody b.alone) found.2 in
     absurd (not_over engine.old world.maps world.history (submitted_of seats s held).change b.stands.tells refl refl sound.images refuses.3)
 commit_open engine seats after world s held transaction reply.Ok b is same pin acts = absurd acts
 commit_open engine seats after world s held transaction (reply.Byte byte) b is same pin acts = absurd acts
@@ -497,7 +527,7 @@ step_acts engine seats after world told b same acts = elim acts [
   | inl fails ↦ absurd (never_fails engine seats after world b fails.1)
   | inr answers ↦
       (let checks : Checkpoints engine.old answers.0 engine.new =
-          subst (λ (mid : Seen). Checkpoints mid answers.0 engine.new) (answers.2.1.nobody b.alone) answers.2.2 in
+      subst (λ (mid : Seen). Checkpoints mid answers.0 engine.new) (answers.2.1.nobody b.alone) answers.2.2 in
       let idle = idles engine.old engine.new answers.0 world.maps world.history b.stands.tells checks b.quiet in
       (answers.1 ∙ ap reply.Ckpt idle.0, stay engine seats after world b same idle.1))
 ]
@@ -512,7 +542,7 @@ copy_acts engine seats after world told [] b same copies = elim copies [
 ]
 copy_acts engine seats after world told (answer ∷ answers) b same copies =
     let checks : Checkpoints engine.old answer copies.0 =
-        subst (λ (mid : Seen). Checkpoints mid answer copies.0) (copies.3.1.nobody b.alone) copies.3.2 in
+    subst (λ (mid : Seen). Checkpoints mid answer copies.0) (copies.3.1.nobody b.alone) copies.3.2 in
     let idle : answer ≡ checkpoint.Idle = (rw b.stands.tells.logs at checks.0).0 in
     let copied : answer ≡ checkpoint.Copied copies.1 = copies.2 in
     absurd cc
@@ -535,6 +565,7 @@ acts_stand engine seats after world act.Copy told b acts = copy_acts engine seat
 acts_stand engine seats after world act.Step told b acts = step_acts engine seats after world told b acts.1 acts.0
 acts_stand engine seats after world act.Logs told b acts =
     let old : acts.1.0 ≡ engine.old = acts.1.1.nobody b.alone in
-    let none : acts.1.0.logs ≡ None = ap (λ (seen : Seen). seen.logs) old ∙ b.stands.tells.logs in
-    (acts.1.2.0 ∙ ap (λ (logs : Option LogState). reply.Logs (told_logs logs)) none,
-     stay engine seats after world b acts.0 (tells_same engine seats after world b (acts.1.2.1 ∙ old)))
+    let none : acts.1.0.logs ≡ None = ap (λ (seen : Seen). seen.logs) old ∙ b.stands.tells.logs in (
+      acts.1.2.0 ∙ ap (λ (logs : Option LogState). reply.Logs (told_logs logs)) none,
+      stay engine seats after world b acts.0 (tells_same engine seats after world b (acts.1.2.1 ∙ old)),
+    )

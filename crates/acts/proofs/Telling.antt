@@ -88,7 +88,7 @@ laid_size pages change none images store =
     let size : 100 ≤ page_size_of pages = omega (arith, legal_size (page_size_of pages) store.size) in
     let count : length pages ≡ 16 = store.count in
     laid-page_size pages change 16 (page_size_of pages) size (lines_whole change (page_size_of pages) images none)
-        (omega arith) (omega arith) store.each
+    (omega arith) (omega arith) store.each
 
 -- once a change is committed, the engine tells of one map and one commit more
 pub tells_more : (old new : Seen) (maps : List PageMap) (history : List Commit) (change : Change) (commit : Commit)
@@ -101,7 +101,7 @@ tells_more old new maps history change commit fresh images is_history is_newest 
     let newest = get_or maps (length history) [] in
     let next = laid newest change in
     let there : get_or (maps ++ next ∷ []) (length (history ++ commit ∷ [])) [] ≡ next =
-        newest_pushed maps next history commit tells.count in
+    newest_pushed maps next history commit tells.count in
     let whole : AreImages (page_size_of newest) change.changed = subst (λ (s : ℕ). AreImages s change.changed) tells.page_size images in
     let size : page_size_of next ≡ page_size_of newest = laid_size newest change fresh whole tells.store in
     record {
@@ -127,12 +127,12 @@ few_images s images are =
     let pages = map (λ (image : PageImage). image.page) images in
     let count : length pages ≡ length images = length-map images (λ (image : PageImage). image.page) in
     let distinct : IsDistinct eqb pages =
-        IsDistinct-from_apart eqb pages (λ i j d below within.
-            let one : get_or pages i d ≡ get_or pages i 0 = get_or_default_zero pages i d (omega arith) in
-            let other : get_or pages j d ≡ get_or pages j 0 = get_or_default_zero pages j d within in
-            ne_eqb (get_or pages i d) (get_or pages j d) (λ e. are.different i j below within (sym one ∙ e ∙ other))) in
+    IsDistinct-from_apart eqb pages (λ i j d below within.
+    let one : get_or pages i d ≡ get_or pages i 0 = get_or_default_zero pages i d (omega arith) in
+    let other : get_or pages j d ≡ get_or pages j 0 = get_or_default_zero pages j d within in
+    ne_eqb (get_or pages i d) (get_or pages j d) (λ e. are.different i j below within (sym one ∙ e ∙ other))) in
     let low : (q : ℕ) → list_any (eqb q) pages ≡ true → q < 17 = λ q found.
-        below_all images are.in_range q (Contains-from_any (λ x y e. eqb-true x y e) q pages found) in
+    below_all images are.in_range q (Contains-from_any (λ x y e. eqb-true x y e) q pages found) in
     omega (arith, count, length-le_from_distinct_below pages 17 distinct low)
   where
     below_all : (images : List PageImage) → All (λ (image : PageImage). (2 ≤ image.page) × (image.page ≤ 16)) images → (q : ℕ)
@@ -142,7 +142,7 @@ few_images s images are =
         let d : PageImage = record { page = 0; bytes = [] } in
         let one : (get_or images there.0 d).page ≤ 16 = (in_range there.0 d within).1 in
         let is : get_or (map (λ (image : PageImage). image.page) images) there.0 q ≡ (get_or images there.0 d).page =
-            get_or-map (λ (image : PageImage). image.page) images there.0 d q within in
+        get_or-map (λ (image : PageImage). image.page) images there.0 d q within in
         let at : q ≡ (get_or images there.0 d).page = sym there.2 ∙ is in
         omega arith
 
@@ -154,7 +154,7 @@ not_over seen maps history change tells fresh freed images over = elim over [
       (let count : pages_after seen change ≡ 16 = omega (arith, tells.size, ap length fresh) in
       let many : 2 ^ 30 < 16 * seen.page_size = subst (λ (n : ℕ). 2 ^ 30 < n * seen.page_size) count pages in
       let most : seen.page_size ≤ 65536 =
-          subst (λ (s : ℕ). s ≤ 65536) (sym tells.page_size) (most_size (page_size_of (get_or maps (length history) [])) tells.store.size) in
+      subst (λ (s : ℕ). s ≤ 65536) (sym tells.page_size) (most_size (page_size_of (get_or maps (length history) [])) tells.store.size) in
       omega arith)
   | inr frames ↦
       (let none : frames_after seen change ≡ 0 + length change.changed + length change.fresh + length change.freed + 2 = rw tells.logs refl in

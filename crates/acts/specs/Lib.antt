@@ -3,3 +3,4 @@ pub mod PlainLaws
 pub mod Pagers
 pub mod InMemory
 pub mod Turns
+pub mod Shared

@@ -1,5 +1,5 @@
 -- The sessions of page lines over an engine: what each holds, and what an act does to them and to the engine.
-use Rattle.std.specs.Prelude.{◌≡◌, ℕ, ◌+◌, ◌≤◌, ◌<◌, ◌==◌, ◌⊎◌, if◌then◌else◌, Bool, true, false, List, [], ◌∷◌, ◌++◌, length, map, replicate, slice_index, Option, Some, None, IfSome, All}
+use Rattle.std.specs.Prelude.{◌≡◌, ℕ, ◌≤◌, ◌==◌, ◌⊎◌, if◌then◌else◌, true, false, List, [], ◌∷◌, ◌++◌, map, replicate, slice_index, Option, Some, None, IfSome, All, Contains}
 use Rattle.std.specs.List.{flat_map}
 use Rattle.page_spec.specs.PageMap.{PageMap, page_at}
 use Rattle.run_spec.specs.declared.pins.Pin.{Pin}
@@ -11,6 +11,7 @@ use Rattle.run_spec.specs.declared.lines.Act.{Act}
 use Rattle.run_spec.specs.declared.lines.Act.TheVariants as act
 use Rattle.run_spec.specs.declared.lines.Told.{Told}
 use Rattle.run_spec.specs.declared.lines.Told.TheVariants as reply
+use Rattle.run_spec.specs.declared.commits.Commit.{Commit}
 use Rattle.run_spec.specs.PageSet.{with_page}
 use Rattle.run_spec.specs.PageLines.{Statement, statement_text, read_text, write_text, image_of, with_image, Fills, AreImages}
 use Rattle.run_spec.specs.Logs.{one_more, told_logs}
@@ -85,7 +86,9 @@ new_transaction pin = record { pin = pin; reads = []; changed = []; said = []; w
 -- a transaction that has read a page of its snapshot
 abbrev pub after_fetch : Transaction → ℕ → Transaction
 after_fetch transaction page = record transaction {
-    reads = with_page transaction.reads page; said = transaction.said ++ read_text page ∷ [] }
+  reads = with_page transaction.reads page;
+  said = transaction.said ++ read_text page ∷ [];
+}
 
 -- a transaction that has read a page that it wrote itself
 abbrev pub after_own : Transaction → ℕ → Transaction
@@ -94,20 +97,22 @@ after_own transaction page = record transaction { said = transaction.said ++ rea
 -- a transaction that has written a page
 abbrev pub after_write : ℕ → Transaction → ℕ → ℕ → Transaction
 after_write page_size transaction page byte = record transaction {
-    changed = with_image transaction.changed page (replicate page_size byte);
-    said = transaction.said ++ write_text page byte ∷ [];
-    wrote = true }
+  changed = with_image transaction.changed page (replicate page_size byte);
+  said = transaction.said ++ write_text page byte ∷ [];
+  wrote = true;
+}
 
 -- what the session's transaction hands in to be committed
 abbrev pub submitted_of : List Seat → ℕ → Transaction → Submitted
 submitted_of seats session transaction = record {
-    snap = transaction.pin.n;
-    reads = transaction.reads;
-    change = record { mode = Concurrent; base = transaction.pin.size; changed = transaction.changed; fresh = []; freed = []; tail = false };
-    said = transaction.said;
-    wrote = transaction.wrote;
-    session = session;
-    ordinal = begun_of seats session }
+  snap = transaction.pin.n;
+  reads = transaction.reads;
+  change = record { mode = Concurrent; base = transaction.pin.size; changed = transaction.changed; fresh = []; freed = []; tail = false };
+  said = transaction.said;
+  wrote = transaction.wrote;
+  session = session;
+  ordinal = begun_of seats session;
+}
 
 -- What an engine is before and after an act: whether it is alone and a transaction may always begin, what it tells, and the map of a pin.
 pub record Between : Type 1 where
@@ -126,9 +131,12 @@ Same engine before after answer told = (told ≡ answer) × (after ≡ before) �
 abbrev pub BeginActs : Between → ℕ → List Seat → List Seat → Told → State → Type 0
 BeginActs engine session before after told Out = (told ≡ reply.Ok) × ((pin : Pin)
     × Found engine.alone engine.free engine.old (λ mid. (begun : Seen) × Begins mid pin begun × Later engine.alone engine.free begun engine.new
-        × (engine.map_after pin ≡ mid.newest))
+    × (engine.map_after pin ≡ mid.newest))
     × (after ≡ with_seat before (record {
-        session = session; begun = one_more (begun_of before session); state = Open (new_transaction pin) })))
+      session = session;
+      begun = one_more (begun_of before session);
+      state = Open (new_transaction pin);
+    })))
 BeginActs engine session before after told (Open transaction) = Same engine before after reply.InTransaction told
 BeginActs engine session before after told (Refused pin) = Same engine before after reply.MustRollBack told
 
@@ -137,9 +145,9 @@ abbrev pub FetchOpen : Between → ℕ → ℕ → List Seat → List Seat → T
 FetchOpen engine session page before after told transaction =
     ((told ≡ reply.Disk) × (after ≡ before) × Found engine.alone engine.free engine.old (λ mid. Fails mid engine.new))
     ⊎ ((byte : ℕ) × (told ≡ reply.Byte byte)
-        × IfSome (engine.map_before transaction.pin) (λ pages. byte ≡ slice_index (page_at pages page) 0)
-        × (after ≡ with_state before session (Open (after_fetch transaction page)))
-        × Found engine.alone engine.free engine.old (λ mid. OnlyFaults mid engine.new))
+    × IfSome (engine.map_before transaction.pin) (λ pages. byte ≡ slice_index (page_at pages page) 0)
+    × (after ≡ with_state before session (Open (after_fetch transaction page)))
+    × Found engine.alone engine.free engine.old (λ mid. OnlyFaults mid engine.new))
 
 -- READ of a page that the transaction wrote itself, or of its snapshot
 abbrev pub ReadOpen : Between → ℕ → ℕ → List Seat → List Seat → Told → Transaction → Option (List ℕ) → Type 0
@@ -165,11 +173,11 @@ WriteActs engine session page byte before after told (Refused pin) = Same engine
 abbrev pub CommitOpen : Between → ℕ → List Seat → List Seat → Transaction → Told → Type 0
 CommitOpen engine session before after transaction (reply.Done receipt) =
     Found engine.alone engine.free engine.old (λ mid. (done : Seen) × Accepts mid (submitted_of before session transaction) receipt done
-        × Ends done transaction.pin engine.new)
+    × Ends done transaction.pin engine.new)
     × (after ≡ with_state before session Out)
 CommitOpen engine session before after transaction (reply.Busy page number) =
     Found engine.alone engine.free engine.old
-        (λ mid. Refuses mid (submitted_of before session transaction) (fault.BusySnapshot page number) engine.new)
+    (λ mid. Refuses mid (submitted_of before session transaction) (fault.BusySnapshot page number) engine.new)
     × (after ≡ with_state before session (Refused transaction.pin))
 CommitOpen engine session before after transaction reply.Disk =
     Found engine.alone engine.free engine.old (λ mid. Refuses mid (submitted_of before session transaction) fault.Disk engine.new)
@@ -179,7 +187,7 @@ CommitOpen engine session before after transaction (reply.Stopped log at) =
     × (after ≡ before)
 CommitOpen engine session before after transaction (reply.Size pages) =
     ((frames : ℕ) × Found engine.alone engine.free engine.old
-        (λ mid. Refuses mid (submitted_of before session transaction) (fault.SizeLimit pages frames) engine.new))
+    (λ mid. Refuses mid (submitted_of before session transaction) (fault.SizeLimit pages frames) engine.new))
     × (after ≡ before)
 CommitOpen engine session before after transaction reply.Ok = ⊥
 CommitOpen engine session before after transaction (reply.Byte byte) = ⊥
@@ -237,3 +245,31 @@ Acts engine before act.Step told after = StepActs engine told × (after ≡ befo
 Acts engine before act.Copy told after = CopyActs engine told × (after ≡ before)
 Acts engine before act.Logs told after = (after ≡ before)
     × Found engine.alone engine.free engine.old (λ mid. (told ≡ reply.Logs (told_logs mid.logs)) × (engine.new ≡ mid))
+
+-- each of these pins is given back, one after another
+abbrev pub EndsAll : List Pin → Seen → Seen → Type 0
+EndsAll [] old new = new ≡ old
+EndsAll (pin ∷ pins) old new = (mid : Seen) × Ends old pin mid × EndsAll pins mid new
+
+-- the maps of the pins that stay through an act are as they were
+abbrev pub KeepsMaps : List Seat → (Pin → Option PageMap) → List Seat → (Pin → Option PageMap) → Type 0
+KeepsMaps before maps after maps_then =
+    (pin : Pin) → Contains (pins_of before) pin → Contains (pins_of after) pin → maps_then pin ≡ maps pin
+
+-- A run of page lines, from these seats on, where each pin that holds has such a map: the acts are answered one after another, and
+-- then the pins of what is still open are given back.
+abbrev pub Plays : Type 0 → Type 0 → Seen → (Pin → Option PageMap) → List Seat → List Act → List Told → Seen → Type 0
+Plays alone free old maps seats [] [] new = EndsAll (pins_of seats) old new
+Plays alone free old maps seats (act ∷ acts) (answer ∷ answers) new =
+    (mid : Seen) × (maps_then : Pin → Option PageMap) × (seats_then : List Seat)
+    × Acts (record { alone = alone; free = free; old = old; new = mid; map_before = maps; map_after = maps_then }) seats act answer seats_then
+    × KeepsMaps seats maps seats_then maps_then × Plays alone free mid maps_then seats_then acts answers new
+Plays alone free old maps seats [] (answer ∷ answers) new = ⊥
+Plays alone free old maps seats (act ∷ acts) [] new = ⊥
+
+-- the history, and which of it are the engine's own commits, grew at their ends alone
+pub record Grew (old new : Seen) : Type 0 where
+  pub more : List Commit
+  pub history : new.history ≡ old.history ++ more
+  pub more_own : List ℕ
+  pub own : new.own ≡ old.own ++ more_own

@@ -32,15 +32,16 @@ up_to (suc number) = up_to number ++ suc number ∷ []
 -- what the engine tells of itself: each commit is its own, it never stops, it has no faults and keeps no logs
 abbrev pub plain_seen : PlainState → Seen
 plain_seen plain = record {
-    history = plain.history;
-    own = up_to (length plain.history);
-    newest = Some (newest_of plain);
-    size = length (newest_of plain);
-    stopped = None;
-    faults = 0;
-    page_size = plain.page_size;
-    usable = plain.usable;
-    logs = None }
+  history = plain.history;
+  own = up_to (length plain.history);
+  newest = Some (newest_of plain);
+  size = length (newest_of plain);
+  stopped = None;
+  faults = 0;
+  page_size = plain.page_size;
+  usable = plain.usable;
+  logs = None;
+}
 
 -- A commit leads from one map to the next: the two agree on all pages that it doesn't count as having written, for a concurrent
 -- transaction, and for a plain one it wrote page 1.
@@ -58,7 +59,7 @@ pub record IsPlain (plain : PlainState) : Type 0 where
   pub few : All (λ pages. (1 ≤ length pages) × (length pages < 2 ^ 32)) plain.maps
   pub whole : All (λ pages. HasSizes pages (length pages) plain.page_size) plain.maps
   pub chain : (k : ℕ) (old new : PageMap) (commit : Commit) → slice_get plain.maps k ≡ Some old
-    → slice_get plain.history k ≡ Some commit → slice_get plain.maps (k + 1) ≡ Some new → Follows old commit new
+      → slice_get plain.history k ≡ Some commit → slice_get plain.maps (k + 1) ≡ Some new → Follows old commit new
 
 -- The pin is of one of the maps.
 pub record Holds (plain : PlainState) (pin : Pin) : Type 0 where
@@ -72,7 +73,7 @@ pub record PlainRuns (sound : PageMap → Type 0) (leads : PageMap → List (Lis
   pub whole : IsPlain plain
   pub snaps : SnapsBefore 0 plain.history
   pub each : (n : ℕ) (pages : PageMap) → slice_get plain.maps n ≡ Some pages
-    → sound pages × leads first (statements_of (take n plain.history)) pages
+      → sound pages × leads first (statements_of (take n plain.history)) pages
 
 -- the engine is whole, and these pins are of its maps
 abbrev pub PlainLive : PlainState → List Pin → Type 0
@@ -81,8 +82,9 @@ PlainLive plain pins = IsPlain plain × All (Holds plain) pins
 -- the engine after one more commit
 abbrev pub committed_state : PlainState → Submitted → PlainState
 committed_state plain asked = record plain {
-    maps = plain.maps ++ laid (newest_of plain) asked.change ∷ [];
-    history = plain.history ++ commit_of asked ∷ [] }
+  maps = plain.maps ++ laid (newest_of plain) asked.change ∷ [];
+  history = plain.history ++ commit_of asked ∷ [];
+}
 
 -- The transaction may be laid over the newest map: it changes pages that are there, each whole, and makes none.
 pub record MayAdd {M : Type 0} (plain : PlainState) (prepared : Prepared M) : Type 0 where

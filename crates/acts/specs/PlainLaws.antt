@@ -23,31 +23,31 @@ held plain pin live =
 
 -- each map has whole pages
 pub map_has_sizes : (plain : PlainState) (n : ℕ) (pages : PageMap) → IsPlain plain → slice_get plain.maps n ≡ Some pages
-  → HasSizes pages (length pages) plain.page_size
+    → HasSizes pages (length pages) plain.page_size
 map_has_sizes plain n pages whole found =
     subst (λ (p : PageMap). HasSizes p (length p) plain.page_size) (get_or_from_slice_get plain.maps n pages pages found)
-        (whole.whole n pages (inside plain.maps n pages found))
+    (whole.whole n pages (inside plain.maps n pages found))
 
 -- the newest map has whole pages
 pub newest_has_sizes : (plain : PlainState) (pages : PageMap) → IsPlain plain → Some (newest_of plain) ≡ Some pages
-  → HasSizes pages (length (newest_of plain)) plain.page_size
+    → HasSizes pages (length (newest_of plain)) plain.page_size
 newest_has_sizes plain pages whole told =
     let same : newest_of plain ≡ pages = cc in
     let count : length plain.history < length plain.maps = omega (arith, whole.count) in
     subst (λ (p : PageMap). HasSizes p (length (newest_of plain)) plain.page_size) same
-        (whole.whole (length plain.history) [] count)
+    (whole.whole (length plain.history) [] count)
 
 -- the map of a pin that holds has as many pages as the pin says
 pub pinned_has_sizes : (plain : PlainState) (pin : Pin) (pages : PageMap) → IsLive PlainLive plain pin
-  → slice_get plain.maps pin.n ≡ Some pages → HasSizes pages pin.size plain.page_size
+    → slice_get plain.maps pin.n ≡ Some pages → HasSizes pages pin.size plain.page_size
 pinned_has_sizes plain pin pages live found =
     let size : length pages ≡ pin.size =
-        sym (ap length (get_or_from_slice_get plain.maps pin.n pages [] found)) ∙ sym (held plain pin live).size in
+    sym (ap length (get_or_from_slice_get plain.maps pin.n pages [] found)) ∙ sym (held plain pin live).size in
     subst (λ (n : ℕ). HasSizes pages n plain.page_size) size (map_has_sizes plain pin.n pages live.1.0 found)
 
 -- the map of a pin that holds is told
 pub plain_tells : (plain : PlainState) (pin : Pin) → IsLive PlainLive plain pin → IsSome (Some (newest_of plain))
-  → IsSome (slice_get plain.maps pin.n)
+    → IsSome (slice_get plain.maps pin.n)
 plain_tells plain pin live told =
     let count : pin.n < length plain.maps = omega (arith, live.1.0.count, (held plain pin live).n) in
     subst (λ (found : Option PageMap). IsSome found) (sym (slice_get-get_or plain.maps pin.n [] count)) refl
@@ -58,16 +58,17 @@ plain_bounds plain pin live = (held plain pin live).n
 
 -- what standing for a run means
 pub plain_run : (sound : PageMap → Type 0) (leads : PageMap → List (List ℕ) → PageMap → Type 0) (first : PageMap) (plain : PlainState)
-  → PlainRuns sound leads first plain
-  → RunsFrom sound leads first (plain_seen plain) (IsLive PlainLive plain) (λ pin. slice_get plain.maps pin.n)
+    → PlainRuns sound leads first plain
+    → RunsFrom sound leads first (plain_seen plain) (IsLive PlainLive plain) (λ pin. slice_get plain.maps pin.n)
 plain_run sound leads first plain runs = record {
-    snaps = runs.snaps;
-    newest = λ pages told.
-        let same : newest_of plain ≡ pages = cc in
-        let count : length plain.history < length plain.maps = omega (arith, runs.whole.count) in
-        let found : slice_get plain.maps (length plain.history) ≡ Some pages =
-            slice_get-get_or plain.maps (length plain.history) [] count ∙ ap Some same in
-        let each : sound pages × leads first (statements_of (take (length plain.history) plain.history)) pages =
-            runs.each (length plain.history) pages found in
-        (each.0, rw (take_all (length plain.history) plain.history (omega arith)) at each.1);
-    pinned = λ pin pages live found. runs.each pin.n pages found }
+  snaps = runs.snaps;
+  newest = λ pages told.
+      let same : newest_of plain ≡ pages = cc in
+      let count : length plain.history < length plain.maps = omega (arith, runs.whole.count) in
+      let found : slice_get plain.maps (length plain.history) ≡ Some pages =
+      slice_get-get_or plain.maps (length plain.history) [] count ∙ ap Some same in
+      let each : sound pages × leads first (statements_of (take (length plain.history) plain.history)) pages =
+      runs.each (length plain.history) pages found in
+      (each.0, rw (take_all (length plain.history) plain.history (omega arith)) at each.1);
+  pinned = λ pin pages live found. runs.each pin.n pages found;
+}

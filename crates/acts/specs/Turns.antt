@@ -44,7 +44,7 @@ pub record Stays {E : Type 0} (seen : E → Seen) (live : E → List Pin → Typ
     (news : List Pin) : Type 0 where
   pub holds : (front back : List Pin) → live old (front ++ (olds ++ back)) → live new (front ++ (news ++ back))
   pub maps : (front back : List Pin) (pin : Pin) → live old (front ++ (olds ++ back)) → Contains (front ++ (olds ++ back)) pin
-    → Contains (front ++ (news ++ back)) pin → map_at new pin ≡ map_at old pin
+      → Contains (front ++ (news ++ back)) pin → map_at new pin ≡ map_at old pin
   pub runs : (first : PageMap) → begins old first → begins new first
   pub is_free : free old → free new
   pub is_alone : alone old → alone new
@@ -65,7 +65,7 @@ IsRefused (fault.Corrupt page) transaction new told = ⊥
 abbrev pub HasBegun : Between → Seat → Seat → Type 0
 HasBegun engine old new = (pin : Pin)
     × Found engine.alone engine.free engine.old (λ mid. (begun : Seen) × Begins mid pin begun × Later engine.alone engine.free begun engine.new
-        × (engine.map_after pin ≡ mid.newest))
+    × (engine.map_after pin ≡ mid.newest))
     × (new ≡ record { session = old.session; begun = one_more old.begun; state = Open (new_transaction pin) })
 
 -- BEGIN of a session that has a seat, by how it stands

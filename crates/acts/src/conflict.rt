@@ -30,12 +30,7 @@ pub fn first_writer_of(mode: Mode, page: u32, before: u64, commits: &[Commit]) -
 
 /// The least page of these that a commit after the snapshot wrote, with the first such commit. It looks at each commit
 /// since the snapshot for each page.
-pub fn find_conflict(
-    mode: Mode,
-    reads: &[u32],
-    snap: u64,
-    history: &[Commit],
-) -> Option<(u32, u64)>
+pub fn find_conflict(mode: Mode, reads: &[u32], snap: u64, history: &[Commit]) -> Option<(u32, u64)>
     requires { snap ≤ length history.now }
     ensures { result ≡ conflict mode reads.now snap history.now }
 {

@@ -34,7 +34,10 @@ impl InMemory {
     {
         let pages = zero_pages(alloc)?;
         let plain = Plain::new(alloc, pages)?;
-        Ok(InMemory { plain, pagers: Pagers::new(alloc) })
+        Ok(InMemory {
+            plain,
+            pagers: Pagers::new(alloc),
+        })
     }
 
     /// Acts. The error is want of memory, and leaves the store where it stood.
@@ -44,6 +47,7 @@ impl InMemory {
         ensures acts { (world : World) → IsAt self.old world
             → IfOk result (λ told. (told ≡ (step world act).told) × IsAt self.new (step world act).world) }
         ensures want { (world : World) → IsAt self.old world → OnErr result (IsAt self.new world) }
+        ensures stands { (world : World) × IsAt self.new world }
     {
         self.pagers.act(&mut self.plain, act)
     }

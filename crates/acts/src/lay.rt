@@ -60,7 +60,14 @@ fn lay_one(
     ensures count { OnOk result (length pages.new ≡ length pages.old) }
 {
     let index = image.page as usize - 1;
-    let bytes = laid_bytes(alloc, mode, tail, image.page, pages.as_slice()[index].bytes(), image.bytes.bytes())?;
+    let bytes = laid_bytes(
+        alloc,
+        mode,
+        tail,
+        image.page,
+        pages.as_slice()[index].bytes(),
+        image.bytes.bytes(),
+    )?;
     pages.set(index, SharedPage::of(alloc, bytes)?);
     Ok(())
 }

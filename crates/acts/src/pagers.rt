@@ -1,15 +1,15 @@
 // The sessions of page lines.
-ghost use Rattle.std.specs.Prelude.{◌≡◌, ℕ, ◌≤◌, ◌<◌, ◌==◌, position, List, [], ◌++◌, Contains, IfOk, OnOk, OnErr, Option};
+ghost use Rattle.std.specs.Prelude.{◌≡◌, ◌≤◌, ◌<◌, ◌==◌, position, List, [], ◌++◌, Contains, IfOk, OnErr, Option};
 ghost use Rattle.page_spec.specs.PageMap.{PageMap};
 ghost use Rattle.run_spec.specs.declared.lines.Act.TheVariants as act;
 ghost use Rattle.run_spec.specs.declared.pins.Pin.{Pin};
 ghost use Rattle.run_spec.specs.Seen.{Found, OnlyFaults};
-ghost use Rattle.acts.specs.Pagers.{Acts, AreSound, IsInRange, pins_of};
+ghost use Rattle.acts.specs.Pagers.{Acts, AreSound, EndsAll, IsInRange, pins_of};
 ghost use Rattle.acts.specs.Turns.{act_of, Stays};
 
 use crate::Raw;
 use crate::seats::{Seat, State};
-use crate::turns::{Deed, begin_again, begin_out, copy, logs, step, turn};
+use crate::turns::{Deed, begin_again, begin_out, copy, end_one, logs, step, turn};
 use page_face::Engine;
 use run_spec::{Act, Told};
 use std::alloc::{AllocError, Global};
@@ -54,8 +54,13 @@ impl Pagers {
         requires live { (others : List Pin) × E.live engine.old (pins_of self.old ++ others) }
 
         ensures acts { IfOk result (λ told. Acts (record {
-            alone = E.alone engine.old; free = E.free engine.old; old = E.seen engine.old; new = E.seen engine.new;
-            map_before = E.map_at engine.old; map_after = E.map_at engine.new }) self.old act told self.new) }
+          alone = E.alone engine.old;
+          free = E.free engine.old;
+          old = E.seen engine.old;
+          new = E.seen engine.new;
+          map_before = E.map_at engine.old;
+          map_after = E.map_at engine.new;
+        }) self.old act told self.new) }
 
         // Want of memory leaves the sessions as they were, and of the engine all but its count of faults.
         ensures want { OnErr result (self.new ≡ self.old) }
@@ -77,6 +82,26 @@ impl Pagers {
     {
         act_on(self.alloc, &mut self.seats, &mut self.buf, engine, act)
     }
+
+    /// Rolls back what is still open, session by session.
+    pub fn end<E: Engine<Raw>>(self, engine: &mut E)
+        requires live { (others : List Pin) × E.live engine.old (pins_of self ++ others) }
+        ensures ends { EndsAll (pins_of self) (E.seen engine.old) (E.seen engine.new) }
+        ensures stays { Stays E.seen E.live E.map_at E.begins E.free E.alone E.loans engine.old (pins_of self) engine.new [] }
+    {
+        end_all(self.seats.as_slice(), engine);
+    }
+}
+
+// Rolls back what is still open in these seats.
+fn end_all<E: Engine<Raw>>(seats: &[Seat], engine: &mut E)
+    requires live { (others : List Pin) × E.live engine.old (pins_of seats.now ++ others) }
+    ensures ends { EndsAll (pins_of seats.now) (E.seen engine.old) (E.seen engine.new) }
+    ensures stays { Stays E.seen E.live E.map_at E.begins E.free E.alone E.loans engine.old (pins_of seats.now) engine.new [] }
+{
+    for seat in seats {
+        end_one(&seat.state, engine);
+    }
 }
 
 // An act over the list of seats.
@@ -93,8 +118,13 @@ fn act_on<E: Engine<Raw>>(
     requires sound { AreSound (E.seen engine.old).page_size seats.old.items }
     requires live { (others : List Pin) × E.live engine.old (pins_of seats.old.items ++ others) }
     ensures acts { IfOk result (λ told. Acts (record {
-        alone = E.alone engine.old; free = E.free engine.old; old = E.seen engine.old; new = E.seen engine.new;
-        map_before = E.map_at engine.old; map_after = E.map_at engine.new }) seats.old.items act told seats.new.items) }
+      alone = E.alone engine.old;
+      free = E.free engine.old;
+      old = E.seen engine.old;
+      new = E.seen engine.new;
+      map_before = E.map_at engine.old;
+      map_after = E.map_at engine.new;
+    }) seats.old.items act told seats.new.items) }
     ensures want { OnErr result (seats.new.items ≡ seats.old.items) }
     ensures wanting { OnErr result (Found (E.alone engine.old) (E.free engine.old) (E.seen engine.old) (λ mid. OnlyFaults mid (E.seen engine.new))) }
     ensures sound { AreSound (E.seen engine.new).page_size seats.new.items }
@@ -102,9 +132,27 @@ fn act_on<E: Engine<Raw>>(
 {
     match act {
         Act::Begin { session } => begin(alloc, seats, engine, session),
-        Act::Read { session, page } => in_seat(alloc, seats, buf, engine, session, Deed::Read { page }),
-        Act::Write { session, page, byte } => {
-            in_seat(alloc, seats, buf, engine, session, Deed::Write { page, byte })
+        Act::Read { session, page } => in_seat(
+            alloc,
+            seats,
+            buf,
+            engine,
+            session,
+            Deed::Read { page },
+        ),
+        Act::Write {
+            session,
+            page,
+            byte,
+        } => {
+            in_seat(
+                alloc,
+                seats,
+                buf,
+                engine,
+                session,
+                Deed::Write { page, byte },
+            )
         }
         Act::Commit { session } => in_seat(alloc, seats, buf, engine, session, Deed::Commit),
         Act::Rollback { session } => in_seat(alloc, seats, buf, engine, session, Deed::Rollback),
@@ -134,8 +182,13 @@ fn in_seat<E: Engine<Raw>>(
     requires sound { AreSound (E.seen engine.old).page_size seats.old.items }
     requires live { (others : List Pin) × E.live engine.old (pins_of seats.old.items ++ others) }
     ensures acts { IfOk result (λ told. Acts (record {
-        alone = E.alone engine.old; free = E.free engine.old; old = E.seen engine.old; new = E.seen engine.new;
-        map_before = E.map_at engine.old; map_after = E.map_at engine.new }) seats.old.items (act_of session deed) told seats.new.items) }
+      alone = E.alone engine.old;
+      free = E.free engine.old;
+      old = E.seen engine.old;
+      new = E.seen engine.new;
+      map_before = E.map_at engine.old;
+      map_after = E.map_at engine.new;
+    }) seats.old.items (act_of session deed) told seats.new.items) }
     ensures want { OnErr result (seats.new.items ≡ seats.old.items) }
     ensures wanting { OnErr result (Found (E.alone engine.old) (E.free engine.old) (E.seen engine.old) (λ mid. OnlyFaults mid (E.seen engine.new))) }
     ensures sound { AreSound (E.seen engine.new).page_size seats.new.items }
@@ -158,8 +211,13 @@ fn begin<E: Engine<Raw>>(
     requires pages { 16 ≤ (E.seen engine.old).size }
     requires sound { AreSound (E.seen engine.old).page_size seats.old.items }
     ensures acts { IfOk result (λ told. Acts (record {
-        alone = E.alone engine.old; free = E.free engine.old; old = E.seen engine.old; new = E.seen engine.new;
-        map_before = E.map_at engine.old; map_after = E.map_at engine.new }) seats.old.items (act.Begin session) told seats.new.items) }
+      alone = E.alone engine.old;
+      free = E.free engine.old;
+      old = E.seen engine.old;
+      new = E.seen engine.new;
+      map_before = E.map_at engine.old;
+      map_after = E.map_at engine.new;
+    }) seats.old.items (act.Begin session) told seats.new.items) }
     ensures want { OnErr result (seats.new.items ≡ seats.old.items) }
     ensures wanting { OnErr result (E.seen engine.new ≡ E.seen engine.old) }
     ensures sound { AreSound (E.seen engine.new).page_size seats.new.items }

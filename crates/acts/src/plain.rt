@@ -9,11 +9,13 @@ ghost use Rattle.page_face.specs.Pins.{IsLive, KeepsPins};
 ghost use Rattle.page_face.specs.Prepared.{submitted, change_in, IsFit, IsGood};
 ghost use Rattle.acts.specs.Plain.{plain_seen, newest_of, committed_state, MayAdd};
 
-use crate::shared_page::SharedPage;
 use crate::conflict::find_conflict;
 use crate::lay::{lay, written_pages};
+use crate::shared_page::SharedPage;
 use disk_face::{Bytes, Failed};
-use page_face::{Ckpt, CommitFault, Engine, FetchFault, Lock, Logs, Means, Pin, Prepared, Receipt, Who};
+use page_face::{
+    Ckpt, CommitFault, Engine, FetchFault, Lock, Logs, Means, Pin, Prepared, Receipt, Who,
+};
 use run_spec::{Commit, Entry};
 use sqlite_items::Items;
 use std::alloc::{AllocError, Global};
@@ -81,7 +83,12 @@ impl<M: Means> Plain<M> {
         ensures { MatchOption result (IsClear (plain_seen self.now) (submitted prepared.now who))
             (λ fault. Refuses (plain_seen self.now) (submitted prepared.now who) fault (plain_seen self.now)) }
     {
-        let found = find_conflict(prepared.mode, prepared.reads.pages(), prepared.snap, self.history.as_slice());
+        let found = find_conflict(
+            prepared.mode,
+            prepared.reads.pages(),
+            prepared.snap,
+            self.history.as_slice(),
+        );
         if let Some((page, commit)) = found {
             return Some(CommitFault::BusySnapshot { page, commit });
         }
@@ -94,7 +101,11 @@ impl<M: Means> Plain<M> {
     }
 
     // Adds a commit that nothing bars. The error is want of memory; it leaves all as it was and hands the transaction back.
-    fn add(&mut self, prepared: Prepared<M>, who: Who) -> Result<Receipt, (CommitFault, Prepared<M>)>
+    fn add(
+        &mut self,
+        prepared: Prepared<M>,
+        who: Who,
+    ) -> Result<Receipt, (CommitFault, Prepared<M>)>
         requires add { MayAdd self.old prepared }
         ensures ok { IfOk result (λ receipt. (receipt ≡ Receipt.At (length self.old.history + 1))
             × (self.new ≡ committed_state self.old (submitted prepared who))) }
@@ -119,7 +130,14 @@ impl<M: Means> Plain<M> {
             statements: prepared.said,
         };
         push_reserved(&mut self.maps, pages);
-        push_reserved(&mut self.history, Commit { entry, wrote, tail: prepared.tail });
+        push_reserved(
+            &mut self.history,
+            Commit {
+                entry,
+                wrote,
+                tail: prepared.tail,
+            },
+        );
         Ok(Receipt::At(number))
     }
 
@@ -156,8 +174,8 @@ fn is_over(pages: u64, page_size: u64, frames: u64) -> bool
     pages * page_size > MOST_BYTES || frames > MOST_FRAMES
 }
 
-// Pushes an item for which there is room.
-fn push_reserved<T: Drop>(items: &mut Vec<T>, item: T)
+/// Pushes an item for which there is room.
+pub fn push_reserved<T: Drop>(items: &mut Vec<T>, item: T)
     requires { vec_len items.old < vec_capacity items.old }
     ensures { items.new.items ≡ items.old.items ++ item ∷ [] }
 {
@@ -268,10 +286,10 @@ impl<M: Means> Engine<M> for Plain<M> {
             → IfSome (⟦<Plain<M> as Engine<M>>⟧.map_at self.old pin.now) (λ snapshot. IsGood (M.sound first) (M.leads first) snapshot prepared) }
         ensures answer { MatchResult result
             (λ receipt. Found (⟦<Plain<M> as Engine<M>>⟧.alone self.old) (⟦<Plain<M> as Engine<M>>⟧.free self.old) (⟦<Plain<M> as Engine<M>>⟧.seen self.old)
-                (λ mid. Accepts mid (submitted prepared who) receipt (⟦<Plain<M> as Engine<M>>⟧.seen self.new)))
+            (λ mid. Accepts mid (submitted prepared who) receipt (⟦<Plain<M> as Engine<M>>⟧.seen self.new)))
             (λ refusal. (refusal.1 ≡ prepared)
-                × Found (⟦<Plain<M> as Engine<M>>⟧.alone self.old) (⟦<Plain<M> as Engine<M>>⟧.free self.old) (⟦<Plain<M> as Engine<M>>⟧.seen self.old)
-                    (λ mid. Refuses mid (submitted prepared who) refusal.0 (⟦<Plain<M> as Engine<M>>⟧.seen self.new))) }
+            × Found (⟦<Plain<M> as Engine<M>>⟧.alone self.old) (⟦<Plain<M> as Engine<M>>⟧.free self.old) (⟦<Plain<M> as Engine<M>>⟧.seen self.old)
+            (λ mid. Refuses mid (submitted prepared who) refusal.0 (⟦<Plain<M> as Engine<M>>⟧.seen self.new))) }
         ensures pins { KeepsPins ⟦<Plain<M> as Engine<M>>⟧.live ⟦<Plain<M> as Engine<M>>⟧.map_at self.old self.new }
         ensures runs { (first : PageMap) → ⟦<Plain<M> as Engine<M>>⟧.begins self.old first → ⟦<Plain<M> as Engine<M>>⟧.begins self.new first }
         ensures may_begin { ⟦<Plain<M> as Engine<M>>⟧.may_begin self.old → ⟦<Plain<M> as Engine<M>>⟧.may_begin self.new }

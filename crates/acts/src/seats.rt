@@ -1,6 +1,6 @@
 // What each session holds.
-use page_face::{Pin, ReadSet};
 use disk_face::Txt;
+use page_face::{Pin, ReadSet};
 use run_spec::PageImage;
 use sqlite_items::Items;
 

@@ -1,5 +1,5 @@
 // What a transaction of page lines keeps of its reads and writes.
-ghost use Rattle.std.specs.Prelude.{◌≡◌, ◌<◌, ◌≤◌, ◌==◌, position, ◌++◌, ◌∷◌, [], length, replicate, slice_index, IfOk, OnOk, OnErr, MatchOption, All, Option};
+ghost use Rattle.std.specs.Prelude.{◌≡◌, ◌<◌, ◌==◌, position, length, replicate, slice_index, IfOk, OnOk, OnErr, MatchOption, All, Option};
 ghost use Rattle.run_spec.specs.PageLines.{read_text, write_text, image_of, with_image};
 ghost use Rattle.acts.specs.Pagers.{after_fetch, after_own, after_write};
 

@@ -1,14 +1,14 @@
 // What an act does to one session's transaction, and to the engine.
-ghost use Rattle.std.specs.Prelude.{◌≡◌, ◌≢◌, ℕ, ◌+◌, ◌≤◌, ◌<◌, List, [], ◌∷◌, length, slice_index, IfOk, OnOk, OnErr, IfSome, MatchOption, MatchResult};
+ghost use Rattle.std.specs.Prelude.{◌≡◌, ◌≢◌, ℕ, ◌≤◌, ◌<◌, List, [], ◌∷◌, length, slice_index, IfOk, OnOk, OnErr, IfSome, MatchOption, MatchResult};
 ghost use Rattle.page_spec.specs.PageMap.{page_at};
 ghost use Rattle.run_spec.specs.declared.commits.CommitFault.TheVariants as fault;
 ghost use Rattle.run_spec.specs.PageLines.{image_of};
-ghost use Rattle.run_spec.specs.Logs.{one_more, told_logs};
+ghost use Rattle.run_spec.specs.Logs.{told_logs};
 ghost use Rattle.run_spec.specs.Seen.{Found, Fails, OnlyFaults, Checkpoints};
 ghost use Rattle.page_face.specs.Pins.{IsLive};
 ghost use Rattle.acts.specs.declared.seats.Seat.{Seat};
 ghost use Rattle.acts.specs.declared.seats.State.TheVariants as state;
-ghost use Rattle.acts.specs.Pagers.{Acts, ReadOpen, FetchOpen, CommitOpen, IsInRange, IsSoundState, IsSoundTransaction, new_transaction, pins_in, StepActs, CopyActs, IsLast};
+ghost use Rattle.acts.specs.Pagers.{Acts, EndsAll, ReadOpen, FetchOpen, CommitOpen, IsInRange, IsSoundState, IsSoundTransaction, pins_in, StepActs, CopyActs, IsLast};
 ghost use Rattle.acts.specs.Turns.{act_of, Moves, AllLive, Stays, IsRefused, HasBegun, IsBegun};
 ghost use Rattle.run_spec.specs.declared.pins.Pin.{Pin};
 ghost use Rattle.run_spec.specs.declared.lines.Told.TheVariants as reply;
@@ -68,7 +68,7 @@ fn first_byte<E: Engine<Raw>>(
     ensures found { IfOk result (λ found. MatchOption found
         (Found (E.alone engine.old) (E.free engine.old) (E.seen engine.old) (λ mid. Fails mid (E.seen engine.new)))
         (λ byte. IfSome (E.map_at engine.old pin.now) (λ pages. byte ≡ slice_index (page_at pages page) 0)
-            × Found (E.alone engine.old) (E.free engine.old) (E.seen engine.old) (λ mid. OnlyFaults mid (E.seen engine.new)))) }
+        × Found (E.alone engine.old) (E.free engine.old) (E.seen engine.old) (λ mid. OnlyFaults mid (E.seen engine.new)))) }
     ensures wanting { OnErr result (Found (E.alone engine.old) (E.free engine.old) (E.seen engine.old) (λ mid. OnlyFaults mid (E.seen engine.new))) }
     ensures stays { Stays E.seen E.live E.map_at E.begins E.free E.alone E.loans engine.old [] engine.new [] }
 {
@@ -93,8 +93,13 @@ fn fetch_open<E: Engine<Raw>>(
     ensures acts { IfOk result (λ told. (before after : List Seat) (session ordinal : ℕ)
         → Moves before session ordinal (state.Open transaction.old) (state.Open transaction.new) after
         → FetchOpen (record {
-            alone = E.alone engine.old; free = E.free engine.old; old = E.seen engine.old; new = E.seen engine.new;
-            map_before = E.map_at engine.old; map_after = E.map_at engine.new }) session page before after told transaction.old) }
+          alone = E.alone engine.old;
+          free = E.free engine.old;
+          old = E.seen engine.old;
+          new = E.seen engine.new;
+          map_before = E.map_at engine.old;
+          map_after = E.map_at engine.new;
+        }) session page before after told transaction.old) }
     ensures want { OnErr result (transaction.new ≡ transaction.old) }
     ensures wanting { OnErr result (Found (E.alone engine.old) (E.free engine.old) (E.seen engine.old) (λ mid. OnlyFaults mid (E.seen engine.new))) }
     ensures sound { IsSoundTransaction (E.seen engine.new).page_size transaction.new }
@@ -124,9 +129,14 @@ fn read_open<E: Engine<Raw>>(
     ensures acts { IfOk result (λ told. (before after : List Seat) (session ordinal : ℕ)
         → Moves before session ordinal (state.Open transaction.old) (state.Open transaction.new) after
         → ReadOpen (record {
-            alone = E.alone engine.old; free = E.free engine.old; old = E.seen engine.old; new = E.seen engine.new;
-            map_before = E.map_at engine.old; map_after = E.map_at engine.new }) session page before after told transaction.old
-            (image_of transaction.old.changed page)) }
+          alone = E.alone engine.old;
+          free = E.free engine.old;
+          old = E.seen engine.old;
+          new = E.seen engine.new;
+          map_before = E.map_at engine.old;
+          map_after = E.map_at engine.new;
+        }) session page before after told transaction.old
+        (image_of transaction.old.changed page)) }
     ensures want { OnErr result (transaction.new ≡ transaction.old) }
     ensures wanting { OnErr result (Found (E.alone engine.old) (E.free engine.old) (E.seen engine.old) (λ mid. OnlyFaults mid (E.seen engine.new))) }
     ensures sound { IsSoundTransaction (E.seen engine.new).page_size transaction.new }
@@ -155,14 +165,25 @@ fn commit_open<E: Engine<Raw>>(
     ensures acts { IfOk result.1 (λ told. (before after : List Seat)
         → Moves before who.session who.ordinal (state.Open transaction) result.0 after
         → CommitOpen (record {
-            alone = E.alone engine.old; free = E.free engine.old; old = E.seen engine.old; new = E.seen engine.new;
-            map_before = E.map_at engine.old; map_after = E.map_at engine.new }) who.session before after transaction told) }
+          alone = E.alone engine.old;
+          free = E.free engine.old;
+          old = E.seen engine.old;
+          new = E.seen engine.new;
+          map_before = E.map_at engine.old;
+          map_after = E.map_at engine.new;
+        }) who.session before after transaction told) }
     ensures want { OnErr result.1 (result.0 ≡ state.Open transaction) }
     ensures wanting { OnErr result.1 (Found (E.alone engine.old) (E.free engine.old) (E.seen engine.old) (λ mid. OnlyFaults mid (E.seen engine.new))) }
     ensures sound { IsSoundState (E.seen engine.new).page_size result.0 }
     ensures stays { Stays E.seen E.live E.map_at E.begins E.free E.alone E.loans engine.old (transaction.pin ∷ []) engine.new (pins_in result.0) }
 {
-    let Transaction { pin, reads, changed, said, wrote } = transaction;
+    let Transaction {
+        pin,
+        reads,
+        changed,
+        said,
+        wrote,
+    } = transaction;
     let prepared = Prepared {
         mode: Mode::Concurrent,
         snap: pin.n,
@@ -234,8 +255,13 @@ fn turn_open<E: Engine<Raw>>(
     ensures acts { IfOk result.1 (λ told. (before after : List Seat)
         → Moves before who.session who.ordinal (state.Open transaction) result.0 after
         → Acts (record {
-            alone = E.alone engine.old; free = E.free engine.old; old = E.seen engine.old; new = E.seen engine.new;
-            map_before = E.map_at engine.old; map_after = E.map_at engine.new }) before (act_of who.session deed) told after) }
+          alone = E.alone engine.old;
+          free = E.free engine.old;
+          old = E.seen engine.old;
+          new = E.seen engine.new;
+          map_before = E.map_at engine.old;
+          map_after = E.map_at engine.new;
+        }) before (act_of who.session deed) told after) }
     ensures want { OnErr result.1 (result.0 ≡ state.Open transaction) }
     ensures wanting { OnErr result.1 (Found (E.alone engine.old) (E.free engine.old) (E.seen engine.old) (λ mid. OnlyFaults mid (E.seen engine.new))) }
     ensures sound { IsSoundState (E.seen engine.new).page_size result.0 }
@@ -264,8 +290,13 @@ fn turn_refused<E: Engine<Raw>>(engine: &mut E, pin: Pin, session: u32, deed: De
     requires live { IsLive E.live engine.old pin }
     ensures acts { (before after : List Seat) (ordinal : ℕ) → Moves before session ordinal (state.Refused pin) result.0 after
         → Acts (record {
-            alone = E.alone engine.old; free = E.free engine.old; old = E.seen engine.old; new = E.seen engine.new;
-            map_before = E.map_at engine.old; map_after = E.map_at engine.new }) before (act_of session deed) result.1 after }
+          alone = E.alone engine.old;
+          free = E.free engine.old;
+          old = E.seen engine.old;
+          new = E.seen engine.new;
+          map_before = E.map_at engine.old;
+          map_after = E.map_at engine.new;
+        }) before (act_of session deed) result.1 after }
     ensures sound { (page_size : ℕ) → IsSoundState page_size result.0 }
     ensures stays { Stays E.seen E.live E.map_at E.begins E.free E.alone E.loans engine.old (pin ∷ []) engine.new (pins_in result.0) }
 {
@@ -294,8 +325,13 @@ pub fn turn<E: Engine<Raw>>(
     ensures acts { IfOk result (λ told. (before after : List Seat)
         → Moves before seat.old.session seat.old.begun seat.old.state seat.new.state after
         → Acts (record {
-            alone = E.alone engine.old; free = E.free engine.old; old = E.seen engine.old; new = E.seen engine.new;
-            map_before = E.map_at engine.old; map_after = E.map_at engine.new }) before (act_of seat.old.session deed) told after) }
+          alone = E.alone engine.old;
+          free = E.free engine.old;
+          old = E.seen engine.old;
+          new = E.seen engine.new;
+          map_before = E.map_at engine.old;
+          map_after = E.map_at engine.new;
+        }) before (act_of seat.old.session deed) told after) }
     ensures want { OnErr result (seat.new ≡ seat.old) }
     ensures wanting { OnErr result (Found (E.alone engine.old) (E.free engine.old) (E.seen engine.old) (λ mid. OnlyFaults mid (E.seen engine.new))) }
     ensures session { seat.new.session ≡ seat.old.session }
@@ -328,8 +364,13 @@ pub fn begin_out<E: Engine<Raw>>(alloc: Global, engine: &mut E, seat: &mut Seat)
     requires pages { 16 ≤ (E.seen engine.old).size }
     requires out { seat.old.state ≡ state.Out }
     ensures begun { HasBegun (record {
-        alone = E.alone engine.old; free = E.free engine.old; old = E.seen engine.old; new = E.seen engine.new;
-        map_before = E.map_at engine.old; map_after = E.map_at engine.new }) seat.old seat.new }
+      alone = E.alone engine.old;
+      free = E.free engine.old;
+      old = E.seen engine.old;
+      new = E.seen engine.new;
+      map_before = E.map_at engine.old;
+      map_after = E.map_at engine.new;
+    }) seat.old seat.new }
     ensures sound { IsSoundState (E.seen engine.new).page_size seat.new.state }
     ensures stays { Stays E.seen E.live E.map_at E.begins E.free E.alone E.loans engine.old [] engine.new (pins_in seat.new.state) }
 {
@@ -347,8 +388,13 @@ pub fn begin_out<E: Engine<Raw>>(alloc: Global, engine: &mut E, seat: &mut Seat)
 /// Takes one step of a checkpoint.
 pub fn step<E: Engine<Raw>>(engine: &mut E) -> Told
     ensures acts { StepActs (record {
-        alone = E.alone engine.old; free = E.free engine.old; old = E.seen engine.old; new = E.seen engine.new;
-        map_before = E.map_at engine.old; map_after = E.map_at engine.new }) result }
+      alone = E.alone engine.old;
+      free = E.free engine.old;
+      old = E.seen engine.old;
+      new = E.seen engine.new;
+      map_before = E.map_at engine.old;
+      map_after = E.map_at engine.new;
+    }) result }
     ensures stays { Stays E.seen E.live E.map_at E.begins E.free E.alone E.loans engine.old [] engine.new [] }
 {
     match checkpoint(engine) {
@@ -372,8 +418,13 @@ pub fn begin_again<E: Engine<Raw>>(alloc: Global, engine: &mut E, seat: &mut Sea
     requires pages { 16 ≤ (E.seen engine.old).size }
     requires sound { IsSoundState (E.seen engine.old).page_size seat.old.state }
     ensures begun { IsBegun (record {
-        alone = E.alone engine.old; free = E.free engine.old; old = E.seen engine.old; new = E.seen engine.new;
-        map_before = E.map_at engine.old; map_after = E.map_at engine.new }) seat.old seat.new result seat.old.state }
+      alone = E.alone engine.old;
+      free = E.free engine.old;
+      old = E.seen engine.old;
+      new = E.seen engine.new;
+      map_before = E.map_at engine.old;
+      map_after = E.map_at engine.new;
+    }) seat.old seat.new result seat.old.state }
     ensures sound { IsSoundState (E.seen engine.new).page_size seat.new.state }
     ensures stays { Stays E.seen E.live E.map_at E.begins E.free E.alone E.loans engine.old (pins_in seat.old.state) engine.new (pins_in seat.new.state) }
 {
@@ -391,8 +442,13 @@ pub fn begin_again<E: Engine<Raw>>(alloc: Global, engine: &mut E, seat: &mut Sea
 pub fn copy<E: Engine<Raw>>(engine: &mut E) -> Told
     requires { E.free engine.old }
     ensures acts { CopyActs (record {
-        alone = E.alone engine.old; free = E.free engine.old; old = E.seen engine.old; new = E.seen engine.new;
-        map_before = E.map_at engine.old; map_after = E.map_at engine.new }) result }
+      alone = E.alone engine.old;
+      free = E.free engine.old;
+      old = E.seen engine.old;
+      new = E.seen engine.new;
+      map_before = E.map_at engine.old;
+      map_after = E.map_at engine.new;
+    }) result }
     ensures stays { Stays E.seen E.live E.map_at E.begins E.free E.alone E.loans engine.old [] engine.new [] }
 {
     let mut last = 0;
@@ -427,5 +483,18 @@ fn copied_page(answer: Ckpt) -> Option<u32>
     match answer {
         Ckpt::Copied(page) => Some(page),
         Ckpt::Finished | Ckpt::Idle | Ckpt::Held(_) => None,
+    }
+}
+
+/// Gives back the pin of a session that is in a transaction.
+pub fn end_one<E: Engine<Raw>>(state: &State, engine: &mut E)
+    requires live { AllLive E.live engine.old (pins_in state.now) }
+    ensures ends { EndsAll (pins_in state.now) (E.seen engine.old) (E.seen engine.new) }
+    ensures stays { Stays E.seen E.live E.map_at E.begins E.free E.alone E.loans engine.old (pins_in state.now) engine.new [] }
+{
+    match state {
+        State::Out => {}
+        State::Open(transaction) => engine.end(transaction.pin),
+        State::Refused(pin) => engine.end(*pin),
     }
 }

@@ -1,51 +1,10 @@
 // What fails, what a crash leaves, and pieces that are given and taken.
 ghost use Rattle.std.specs.Prelude.{◌≡◌, true, false, IfOk};
 
-use crate::{Call, Fail, FixedSalts, MemDisk, MemSink, MemSource};
-use disk_face::{Disk, Failed, File, Salts, Sink, Source};
+use crate::{Call, Fail, MemDisk};
+use disk_face::{Disk, Failed, File};
 use std::alloc::{AllocError, Global};
 use std::test;
-
-#[test]
-fn a_source_gives_pieces_and_fails_once(rt: HostRuntime) -> Result<(), test::Fail> {
-    let text = b"abcde".to_vec(rt.alloc())?;
-    let mut source = MemSource::new(text, 2, Some(2));
-    let mut buf = [0; 4];
-    assert_eq!(rt; source.take(&mut buf), Ok(2));
-    assert_eq!(rt; buf, *b"ab\0\0");
-    assert_eq!(rt; source.take(&mut buf), Err(Failed));
-    assert_eq!(rt; source.take(&mut buf), Ok(2));
-    assert_eq!(rt; buf, *b"cd\0\0");
-    assert_eq!(rt; source.take(&mut buf), Ok(1));
-    assert_eq!(rt; buf, *b"ed\0\0");
-    assert_eq!(rt; source.take(&mut buf), Ok(0));
-    Ok(())
-}
-
-#[test]
-fn a_sink_takes_pieces_and_fails_once(rt: HostRuntime) -> Result<(), test::Fail> {
-    let mut sink = MemSink::new(rt.alloc(), 3, Some(2));
-    assert_eq!(rt; sink.put(b"abcd"), Ok(3));
-    assert_eq!(rt; sink.put(b"d"), Err(Failed));
-    assert_eq!(rt; sink.put(b"d"), Ok(1));
-    assert_eq!(rt; sink.written(), b"abcd".as_slice());
-    Ok(())
-}
-
-#[test]
-fn salts_are_given_in_turn_and_then_0(rt: HostRuntime) -> Result<(), test::Fail> {
-    let mut salts = FixedSalts::new([7, 9].to_vec(rt.alloc())?);
-    assert_eq!(rt; salts.word(), 7);
-    assert_eq!(rt; salts.word(), 9);
-    assert_eq!(rt; salts.word(), 0);
-    Ok(())
-}
-
-// One thing that is done to a disk.
-enum Act<'a> {
-    Write(File, u64, &'a [u8]),
-    Sync(File),
-}
 
 const SECOND_WRITE: Fail = Fail {
     file: File::Main,
@@ -61,84 +20,120 @@ const FIRST_SYNC: Fail = Fail {
 
 #[test]
 fn a_crash_leaves_what_was_picked(rt: HostRuntime) -> Result<(), test::Fail> {
-    use Act::{Sync, Write};
-    use File::{Log1, Log2, Main};
-
     let alloc = rt.alloc();
-    let abc = &[Write(Log1, 0, b"abc")];
-    assert!(rt; leaves(alloc, None, abc, &[1, 2], b"main,\x01\x02c,")?);
-    assert!(rt; leaves(alloc, None, abc, &[], b"main,abc,")?);
-    let synced = &[Write(Log1, 0, b"abc"), Sync(Log1), Write(Log1, 2, b"d")];
-    assert!(rt; leaves(alloc, None, synced, b"xyz", b"main,abx,")?);
-    let other_synced = &[Write(Log1, 0, b"abc"), Sync(Log2)];
-    assert!(rt; leaves(alloc, None, other_synced, b"xyz", b"main,xyz,")?);
-    let overlapping = &[Write(Main, 0, b"XX"), Write(Main, 1, b"YY")];
-    assert!(rt; leaves(alloc, None, overlapping, b"1234", b"123n,,")?);
-    let longer = &[Write(Main, 3, b"Nex")];
-    assert!(rt; leaves(alloc, None, longer, b"12", b"mai12x,,")?);
-    let in_all_files = &[
-        Write(Log2, 0, b"l"),
-        Write(Main, 1, b"A"),
-        Write(Log1, 0, b"k"),
-    ];
-    assert!(rt; leaves(alloc, None, in_all_files, b"123", b"m1in,2,3")?);
+    assert!(rt; one_write(alloc, &[1, 2], b"main,\x01\x02c,")?);
+    assert!(rt; one_write(alloc, &[], b"main,abc,")?);
+    assert!(rt; synced_before_a_write(alloc)?, "what is synced stands");
+    assert!(rt;
+        another_synced(alloc)?,
+        "a sync of another file confirms nothing"
+    );
+    assert!(rt; overlapping(alloc)?, "two ranges overlap");
+    assert!(rt; longer(alloc)?, "a write makes the file longer");
+    assert!(rt;
+        in_all_files(alloc)?,
+        "the main file comes first, then the logs in turn"
+    );
+    assert!(rt;
+        refused(alloc, b"1234", b"1234,,")?,
+        "any bytes stand in the range of a write that fails"
+    );
+    assert!(rt;
+        refused(alloc, b"", b"MAin,,")?,
+        "a write that fails changes nothing"
+    );
+    assert!(rt; unsynced(alloc)?, "a sync that fails confirms nothing");
+    Ok(())
+}
+
+fn one_write(alloc: Global, pick: &[u8], want: &[u8]) -> Result<bool, Failed> {
+    let mut trial = Trial::new(alloc, None)?;
+    trial.write(File::Log1, 0, b"abc");
+    trial.leaves(alloc, pick, want)
+}
+
+fn synced_before_a_write(alloc: Global) -> Result<bool, Failed> {
+    let mut trial = Trial::new(alloc, None)?;
+    trial.write(File::Log1, 0, b"abc");
+    trial.sync(File::Log1);
+    trial.write(File::Log1, 2, b"d");
+    trial.leaves(alloc, b"xyz", b"main,abx,")
+}
+
+fn another_synced(alloc: Global) -> Result<bool, Failed> {
+    let mut trial = Trial::new(alloc, None)?;
+    trial.write(File::Log1, 0, b"abc");
+    trial.sync(File::Log2);
+    trial.leaves(alloc, b"xyz", b"main,xyz,")
+}
+
+fn overlapping(alloc: Global) -> Result<bool, Failed> {
+    let mut trial = Trial::new(alloc, None)?;
+    trial.write(File::Main, 0, b"XX");
+    trial.write(File::Main, 1, b"YY");
+    trial.leaves(alloc, b"1234", b"123n,,")
+}
+
+fn longer(alloc: Global) -> Result<bool, Failed> {
+    let mut trial = Trial::new(alloc, None)?;
+    trial.write(File::Main, 3, b"Nex");
+    trial.leaves(alloc, b"12", b"mai12x,,")
+}
+
+fn in_all_files(alloc: Global) -> Result<bool, Failed> {
+    let mut trial = Trial::new(alloc, None)?;
+    trial.write(File::Log2, 0, b"l");
+    trial.write(File::Main, 1, b"A");
+    trial.write(File::Log1, 0, b"k");
+    trial.leaves(alloc, b"123", b"m1in,2,3")
+}
+
+fn refused(alloc: Global, pick: &[u8], want: &[u8]) -> Result<bool, Failed> {
+    let mut trial = Trial::new(alloc, Some(SECOND_WRITE))?;
+    trial.write(File::Main, 0, b"M");
+    trial.write(File::Main, 2, b"IN");
+    trial.write(File::Main, 1, b"A");
+    trial.leaves(alloc, pick, want)
+}
+
+fn unsynced(alloc: Global) -> Result<bool, Failed> {
+    let mut trial = Trial::new(alloc, Some(FIRST_SYNC))?;
+    trial.write(File::Log1, 0, b"abc");
+    trial.sync(File::Log1);
+    trial.write(File::Log2, 0, b"d");
+    trial.sync(File::Log2);
+    trial.leaves(alloc, b"xyzw", b"main,xyz,d")
+}
+
+#[test]
+fn a_disk_stops_where_it_is_told(rt: HostRuntime) -> Result<(), test::Fail> {
+    let mut trial = Trial::new(rt.alloc(), None)?;
+    assert_eq!(rt; trial.journal(), Ok(false));
+    trial.disk.set_journal(true);
+    trial.disk.stop_after(2);
+    assert_eq!(rt; trial.journal(), Ok(true));
+    assert_eq!(rt; trial.size(), Ok(4));
+    assert_eq!(rt; trial.size(), Err(Failed));
+    assert_eq!(rt; trial.disk.calls(), 5);
+    trial.disk.stop_after(0);
+    assert_eq!(rt; trial.journal(), Err(Failed));
     Ok(())
 }
 
 #[test]
-fn a_crash_after_a_failing_call(rt: HostRuntime) -> Result<(), test::Fail> {
-    use Act::{Sync, Write};
-    use File::{Log1, Log2, Main};
-
-    let alloc = rt.alloc();
-    let written = &[
-        Write(Main, 0, b"M"),
-        Write(Main, 2, b"IN"),
-        Write(Main, 1, b"A"),
-    ];
-    assert!(rt; leaves(alloc, Some(SECOND_WRITE), written, b"1234", b"1234,,")?);
-    assert!(rt; leaves(alloc, Some(SECOND_WRITE), written, b"", b"MAin,,")?);
-    let synced = &[
-        Write(Log1, 0, b"abc"),
-        Sync(Log1),
-        Write(Log2, 0, b"d"),
-        Sync(Log2),
-    ];
-    assert!(rt; leaves(alloc, Some(FIRST_SYNC), synced, b"xyzw", b"main,xyz,d")?);
+fn a_disk_reads_what_it_holds(rt: HostRuntime) -> Result<(), test::Fail> {
+    let mut trial = Trial::new(rt.alloc(), None)?;
+    let mut buf = [0; 2];
+    assert!(rt; trial.read(1, &mut buf));
+    assert_eq!(rt; buf, *b"ai");
     Ok(())
 }
 
-// Whether a crash leaves these three files, given with commas between them, after all this was done to a disk with a main
-// file `main` and empty logs.
-fn leaves(
-    alloc: Global,
-    failing: Option<Fail>,
-    acts: &[Act],
-    pick: &[u8],
-    want: &[u8],
-) -> Result<bool, AllocError> {
-    let files = left(alloc, failing, acts, pick)?;
-    Ok(files.as_slice() == want)
-}
-
-// The three files that a crash leaves, with commas between them, of a disk with a main file `main` and empty logs.
-fn left(
-    alloc: Global,
-    failing: Option<Fail>,
-    acts: &[Act],
-    pick: &[u8],
-) -> Result<Vec<u8>, AllocError> {
-    let mut disk = disk_with(alloc, failing)?;
-    if disk.attach(b"db").is_ok() {
-        run(&mut disk, acts);
-    }
-    let crashed = disk.crash(pick)?;
-    let mut files = crashed.file(File::Main).to_vec(alloc)?;
-    files.extend_from_slice(b",")?;
-    files.extend_from_slice(crashed.file(File::Log1))?;
-    files.extend_from_slice(b",")?;
-    files.extend_from_slice(crashed.file(File::Log2))?;
-    Ok(files)
+// A disk whose files are named.
+#[derive(Drop)]
+struct Trial {
+    disk: MemDisk,
+    ghost attached: { disk.attached ≡ true },
 }
 
 fn disk_with(alloc: Global, failing: Option<Fail>) -> Result<MemDisk, AllocError>
@@ -152,85 +147,60 @@ fn disk_with(alloc: Global, failing: Option<Fail>) -> Result<MemDisk, AllocError
     Ok(MemDisk::new(alloc, main, Vec::new(alloc), Vec::new(alloc), named))
 }
 
-fn run(disk: &mut MemDisk, acts: &[Act])
-    requires { disk.old.attached ≡ true }
-{
-    if let [act, rest @ ..] = acts {
-        perform(disk, act);
-        run(disk, rest);
+impl Trial {
+    // A disk with a main file `main` and empty logs.
+    fn new(alloc: Global, failing: Option<Fail>) -> Result<Trial, Failed> {
+        let Ok(mut disk) = disk_with(alloc, failing) else {
+            return Err(Failed);
+        };
+        disk.attach(b"db")?;
+        Ok(Trial { disk })
+    }
+
+    fn write(&mut self, file: File, at: u64, piece: &[u8]) {
+        if at <= self.disk.file(file).len() as u64 {
+            let _ = self.disk.write_at(file, at, piece);
+        }
+    }
+
+    fn sync(&mut self, file: File) {
+        let _ = self.disk.sync(file);
+    }
+
+    fn read(&mut self, at: u64, buf: &mut [u8]) -> bool {
+        let length = self.disk.file(File::Main).len() as u64;
+        at <= length
+            && buf.len() as u64 <= length - at
+            && self.disk.read_at(File::Main, at, buf).is_ok()
+    }
+
+    fn size(&mut self) -> Result<u64, Failed> {
+        self.disk.size(File::Main)
+    }
+
+    fn journal(&mut self) -> Result<bool, Failed> {
+        self.disk.journal()
+    }
+
+    // Whether a crash leaves these three files, given with commas between them.
+    fn leaves(&self, alloc: Global, pick: &[u8], want: &[u8]) -> Result<bool, Failed> {
+        match self.disk.crash(pick) {
+            Ok(left) => is_joined(&left, alloc, want).or(Err(Failed)),
+            Err(_) => Err(Failed),
+        }
     }
 }
 
-fn perform(disk: &mut MemDisk, act: &Act)
-    requires { disk.old.attached ≡ true }
-    ensures { disk.new.attached ≡ true }
-{
-    match act {
-        Act::Write(file, at, piece) => {
-            if *at <= disk.file(*file).len() as u64 {
-                let _ = disk.write_at(*file, *at, piece);
-            }
-        }
-        Act::Sync(file) => {
-            let _ = disk.sync(*file);
-        }
-    }
+fn is_joined(disk: &MemDisk, alloc: Global, want: &[u8]) -> Result<bool, AllocError> {
+    let files = joined(disk, alloc)?;
+    Ok(files.as_slice() == want)
 }
 
-#[test]
-fn a_disk_stops_where_it_is_told(rt: HostRuntime) -> Result<(), test::Fail> {
-    let mut disk = disk_with(rt.alloc(), None)?;
-    disk.set_journal(true);
-    disk.attach(b"db").or(Err("attach"))?;
-    disk.stop_after(2);
-    assert_eq!(rt; hot(&mut disk), Ok(true));
-    assert_eq!(rt; size(&mut disk), Ok(4));
-    assert_eq!(rt; size(&mut disk), Err(Failed));
-    assert_eq!(rt; hot(&mut disk), Err(Failed));
-    assert_eq!(rt; disk.calls(), 5);
-    Ok(())
-}
-
-#[test]
-fn a_disk_stops_at_once(rt: HostRuntime) -> Result<(), test::Fail> {
-    let mut disk = disk_with(rt.alloc(), None)?;
-    disk.set_journal(true);
-    disk.attach(b"db").or(Err("attach"))?;
-    disk.stop_after(0);
-    assert_eq!(rt; size(&mut disk), Err(Failed));
-    let mut left = disk.crash(&[])?;
-    left.attach(b"db").or(Err("attach anew"))?;
-    assert_eq!(rt; hot(&mut left), Ok(true));
-    Ok(())
-}
-
-fn size(disk: &mut MemDisk) -> Result<u64, Failed>
-    requires { disk.old.attached ≡ true }
-    ensures { disk.new.attached ≡ true }
-{
-    disk.size(File::Main)
-}
-
-fn hot(disk: &mut MemDisk) -> Result<bool, Failed>
-    requires { disk.old.attached ≡ true }
-    ensures { disk.new.attached ≡ true }
-{
-    disk.journal()
-}
-
-#[test]
-fn a_disk_reads_what_it_holds(rt: HostRuntime) -> Result<(), test::Fail> {
-    let main = b"main".to_vec(rt.alloc())?;
-    let mut disk = MemDisk::new(
-        rt.alloc(),
-        main,
-        vec![in rt.alloc()]?,
-        vec![in rt.alloc()]?,
-        vec![in rt.alloc()]?,
-    );
-    disk.attach(b"db").or(Err("attach"))?;
-    let mut buf = [0; 2];
-    disk.read_at(File::Main, 1, &mut buf).or(Err("read"))?;
-    assert_eq!(rt; buf, *b"ai");
-    Ok(())
+fn joined(disk: &MemDisk, alloc: Global) -> Result<Vec<u8>, AllocError> {
+    let mut files = disk.file(File::Main).to_vec(alloc)?;
+    files.extend_from_slice(b",")?;
+    files.extend_from_slice(disk.file(File::Log1))?;
+    files.extend_from_slice(b",")?;
+    files.extend_from_slice(disk.file(File::Log2))?;
+    Ok(files)
 }

@@ -1,5 +1,5 @@
 -- Laws of the checksum.
-use Rattle.std.proofs.Common.{◌≡◌, ℕ, ◌+◌, ◌*◌, ◌/◌, ◌%◌, ◌≤◌, zero, suc, Bool, List, ◌++◌, length, get_or, refl, ◌∙◌, ap, arith, add-one, length-append, get_or-append-add, add-zero, add-suc}
+use Rattle.std.proofs.Common.{[], ◌≡◌, ℕ, ◌+◌, ◌*◌, ◌/◌, ◌%◌, ◌≤◌, zero, suc, Bool, List, ◌++◌, length, get_or, refl, ◌∙◌, ap, arith, add-one, length-append, get_or-append-add, add-zero, add-suc}
 use Rattle.std.proofs.lemmas.List.{get_or_append_left}
 use Rattle.page_spec.specs.Bytes.{u32_at}
 use Rattle.log_spec.specs.Checksum.{Sum, word_at, pair_step, sum_of_pairs, checksum}
@@ -69,3 +69,8 @@ unfolding checksum
 checksum-append big sum xs ys whole =
     let pairs : length (xs ++ ys) / 8 ≡ length xs / 8 + length ys / 8 = omega (arith, length-append xs ys) in
     rw pairs (sum_of_pairs-after big sum xs ys (length xs / 8) (length ys / 8) (omega arith))
+
+-- the checksum of no bytes
+pub checksum-none : (big : Bool) (sum : Sum) → checksum big sum [] ≡ sum
+unfolding checksum sum_of_pairs
+checksum-none big sum = refl

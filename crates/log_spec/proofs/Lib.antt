@@ -1,2 +1,3 @@
 pub mod AcceptLaws
 pub mod ChecksumLaws
+pub mod ScanLaws

@@ -9,16 +9,16 @@ use Rattle.log_spec.specs.LogHeader.{log_fields, is_signed, is_generation, forei
 use Rattle.wal_frames.specs.Front.{front_of, header_in, signed_front}
 use Rattle.wal_frames.specs.declared.header.Front.TheVariants.{Nothing, Foreign, Ours}
 
-le_true : (m n : ℕ) → m ≤ n → nat_le m n ≡ true
+pub le_true : (m n : ℕ) → m ≤ n → nat_le m n ≡ true
 le_true m n h = grind (arith, nat_tests)
 
-le_false : (m n : ℕ) → n < m → nat_le m n ≡ false
+pub le_false : (m n : ℕ) → n < m → nat_le m n ≡ false
 le_false m n h = grind (arith, nat_tests)
 
-eq_true : (m n : ℕ) → m ≡ n → (m == n) ≡ true
+pub eq_true : (m n : ℕ) → m ≡ n → (m == n) ≡ true
 eq_true m n h = grind (arith, nat_tests)
 
-eq_false : (m n : ℕ) → (m ≡ n → ⊥) → (m == n) ≡ false
+pub eq_false : (m n : ℕ) → (m ≡ n → ⊥) → (m == n) ≡ false
 eq_false m n h = grind (arith, nat_tests)
 
 pub short_is_unsigned : (bytes : List ℕ) → length bytes < 32 → false ≡ is_signed bytes

@@ -1,2 +1,6 @@
+mod FrameParts
 mod Fronts
+mod Knows
+mod Opening
+mod Pieces
 mod Written

@@ -1,7 +1,7 @@
 -- What the bytes of a log begin with, in the types of this crate.
 use Rattle.std.specs.Prelude.{◌≡◌, ℕ, List, Bool, ◌==◌, if◌then◌else◌, Option, Some, None}
 use Rattle.log_spec.specs.Checksum.{Sum as Words}
-use Rattle.log_spec.specs.LogHeader.{LogFields, log_fields, is_big, is_signed, foreign_at, own_version}
+use Rattle.log_spec.specs.LogHeader.{LogFields, log_fields, is_big, is_signed, foreign_at, own_version, big_magic, little_magic}
 use Rattle.wal_frames.specs.declared.sum.Sum.{Sum}
 use Rattle.wal_frames.specs.declared.header.LogHeader.{LogHeader}
 use Rattle.wal_frames.specs.declared.header.Front.{Front}
@@ -37,3 +37,15 @@ front_of log bytes = if is_signed bytes then signed_front bytes (foreign_at log 
 pub record TellsLogHeader (bytes : List ℕ) (header : LogHeader) : Type 0 where
   pub version : (log_fields bytes).version ≡ own_version
   pub told : header_in bytes ≡ record header { sum = (header_in bytes).sum }
+
+-- the fields of a header of ours that tells this
+abbrev pub fields_for : LogHeader → LogFields
+fields_for header = record {
+  magic = if header.big then big_magic else little_magic;
+  version = own_version;
+  page_size = header.page_size;
+  generation = header.generation;
+  salt1 = header.salt1;
+  salt2 = header.salt2;
+  sum = words_of header.sum;
+}

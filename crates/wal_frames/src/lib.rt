@@ -4,14 +4,20 @@
 //! checkpoint sequence number holds a generation, are this project's own.
 #![tactic(auto)]
 
+mod found;
 mod header;
 mod read;
+mod scan;
+#[cfg(test)]
+mod scan_tests;
 mod sum;
 #[cfg(test)]
 mod tests;
 mod write;
 
+pub use found::{Accepted, ScanFault};
 pub use header::{Front, LogHeader};
 pub use read::read_log_header;
+pub use scan::accepted;
 pub use sum::{Sum, sum_step};
 pub use write::write_log_header;

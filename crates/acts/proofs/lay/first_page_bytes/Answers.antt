@@ -6,6 +6,15 @@ slice_bounds-from_slice-end c = omega (arith, length-take 32 c.args.old.now)
 
 pub returns-clause-size : goal.returns-clause-size
 returns-clause-size c =
-    omega (arith, ap length (c.in_ok-bytes.ensures.items), ap length (c.in_ok-extend_from_slice.ensures.items),
-        ap length (c.in_ok-extend_from_slice-2.ensures.items), ap length (c.in_ok-extend_from_slice-3.ensures.items),
-        length-append {A = ℕ}, length-take {A = ℕ}, length-drop {A = ℕ}, c.schema_part.ensures.size, c.tree_part.ensures.size)
+    omega (
+      arith,
+      ap length (c.in_ok-bytes.ensures.items),
+      ap length (c.in_ok-extend_from_slice.ensures.items),
+      ap length (c.in_ok-extend_from_slice-2.ensures.items),
+      ap length (c.in_ok-extend_from_slice-3.ensures.items),
+      length-append {A = ℕ},
+      length-take {A = ℕ},
+      length-drop {A = ℕ},
+      c.schema_part.ensures.size,
+      c.tree_part.ensures.size,
+    )

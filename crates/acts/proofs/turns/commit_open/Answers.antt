@@ -21,11 +21,21 @@ returns-in-Ok-clause-stays g c = done_stays g.E.Engine.seen g.E.Engine.live g.E.
 
 pub returns-in-Err-clause-acts : goal.returns-in-Err-clause-acts
 returns-in-Err-clause-acts g c =
-    refused_acts (record { alone = g.E.Engine.alone c.args.engine.now; free = g.E.Engine.free c.args.engine.now;
-        old = g.E.Engine.seen c.args.engine.now; new = g.E.Engine.seen c.commit.new.self;
-        map_before = g.E.Engine.map_at c.args.engine.now; map_after = g.E.Engine.map_at c.commit.new.self })
+    refused_acts (record {
+      alone = g.E.Engine.alone c.args.engine.now;
+      free = g.E.Engine.free c.args.engine.now;
+      old = g.E.Engine.seen c.args.engine.now;
+      new = g.E.Engine.seen c.commit.new.self;
+      map_before = g.E.Engine.map_at c.args.engine.now;
+      map_after = g.E.Engine.map_at c.commit.new.self;
+    })
     c.args.who.session c.args.who.ordinal c.args.transaction _ c.in-Err.why c.after_refusal.result.0 c.after_refusal.result.1
     c.new.result c.new-2.result c.new.ensures c.new-2.ensures c.in-Err.ensures.answer.1
-    (ap (λ (prepared : Prepared Raw). (let back : Transaction = record { pin = c.args.transaction.pin; reads = prepared.reads;
-        changed = prepared.changed; said = prepared.said; wrote = prepared.wrote } in back)) c.in-Err.ensures.answer.0)
+    (ap (λ (prepared : Prepared Raw). (let back : Transaction = record {
+      pin = c.args.transaction.pin;
+      reads = prepared.reads;
+      changed = prepared.changed;
+      said = prepared.said;
+      wrote = prepared.wrote;
+    } in back)) c.in-Err.ensures.answer.0)
     c.after_refusal.ensures

@@ -1,4 +1,4 @@
-use Rattle.std.proofs.Common.{◌≡◌, ◌-◌, ◌^◌, ◌≤◌, List, [], Option}
+use Rattle.std.proofs.Common.{◌-◌, ◌^◌, ◌≤◌, List, []}
 use Rattle.std.specs.Prelude.{IfSome}
 use Rattle.run_spec.specs.declared.pins.Ckpt.{Ckpt}
 use Rattle.run_spec.specs.declared.lines.Told.{Told}
@@ -13,8 +13,8 @@ invariant-loop-answer g l = record {
   stays : Stays g.E.Engine.seen g.E.Engine.live g.E.Engine.map_at g.E.Engine.begins g.E.Engine.free g.E.Engine.alone g.E.Engine.loans
       l.initial.engine [] l.engine [];
   goes_on : (answers : List Ckpt) (told : Told) (new : Seen)
-    → Copies (g.E.Engine.alone l.initial.engine) (g.E.Engine.free l.initial.engine) answers (g.E.Engine.seen l.engine) told new
-    → (all : List Ckpt) × Copies (g.E.Engine.alone l.initial.engine) (g.E.Engine.free l.initial.engine) all (g.E.Engine.seen l.initial.engine) told new
+      → Copies (g.E.Engine.alone l.initial.engine) (g.E.Engine.free l.initial.engine) answers (g.E.Engine.seen l.engine) told new
+      → (all : List Ckpt) × Copies (g.E.Engine.alone l.initial.engine) (g.E.Engine.free l.initial.engine) all (g.E.Engine.seen l.initial.engine) told new;
 }
 
 abbrev pub decreases-loop-answer : goal.decreases-loop-answer

@@ -19,11 +19,11 @@ new-requires-clause-legal c =
 pub new-requires-clause-whole : goal.new-requires-clause-whole
 new-requires-clause-whole c =
     subst (λ (pages : PageMap). All (λ (page : List ℕ). length page ≡ page_size_of pages) pages) (sym c.in_ok-pages.ensures)
-        zeros_are_store.store.each
+    zeros_are_store.store.each
 
 pub returns : goal.returns
 returns c =
     let made = c.in_ok-plain.ensures in
     memory_starts c.in_ok-plain.plain c.new-2.result zeros 4096 zeros_are_store made.live.0
-        (made.maps ∙ ap (λ (pages : PageMap). pages ∷ []) c.in_ok-pages.ensures) made.history
-        (made.page_size ∙ ap page_size_of c.in_ok-pages.ensures) c.new-2.ensures
+    (made.maps ∙ ap (λ (pages : PageMap). pages ∷ []) c.in_ok-pages.ensures) made.history
+    (made.page_size ∙ ap page_size_of c.in_ok-pages.ensures) c.new-2.ensures

@@ -1,6 +1,5 @@
 use Rattle.std.proofs.Common.{◌≡◌, List, [], ◌++◌, sym, subst}
 use Rattle.std.specs.Prelude.{Contains}
-use Rattle.run_spec.specs.declared.pins.Pin.{Pin}
 use Rattle.acts.specs.declared.seats.Seat.{Seat}
 use Rattle.acts.specs.Pagers.{pins_of}
 use Rattle.acts.proofs.pagers.Pagers.act.Goals as goal

@@ -7,12 +7,12 @@ use Rattle.acts.proofs.plain.Plain.add.Goals as goal
 pub invariant_of-self-2 : goal.invariant_of-self-2
 invariant_of-self-2 g c =
     plain_pushed c.args.self.now c.args.prepared c.args.who c.requires.add
-        _ _ _ _ _ _ _ _
-        (ap (λ (s : PlainState). s.page_size) c.self.view_is)
-        (ap (λ (s : PlainState). s.usable) c.self.view_is)
-        (c.reserve.ensures.items ∙ ap (λ (s : PlainState). s.maps) c.self.view_is)
-        (c.reserve-else-is_err.ensures.items ∙ ap (λ (s : PlainState). s.history) c.self.view_is)
-        c.in-Ok.ensures
-        (c.in-Ok-written_pages.ensures ∙ ap (λ (images : List PageImage). 1 ∷ filter (λ page. not (nat_eq page 1)) (map (λ image. image.page) images)) c.as_slice.ensures)
-        c.push_reserved.ensures
-        c.push_reserved-2.ensures
+    _ _ _ _ _ _ _ _
+    (ap (λ (s : PlainState). s.page_size) c.self.view_is)
+    (ap (λ (s : PlainState). s.usable) c.self.view_is)
+    (c.reserve.ensures.items ∙ ap (λ (s : PlainState). s.maps) c.self.view_is)
+    (c.reserve-else-is_err.ensures.items ∙ ap (λ (s : PlainState). s.history) c.self.view_is)
+    c.in-Ok.ensures
+    (c.in-Ok-written_pages.ensures ∙ ap (λ (images : List PageImage). 1 ∷ filter (λ page. not (nat_eq page 1)) (map (λ image. image.page) images)) c.as_slice.ensures)
+    c.push_reserved.ensures
+    c.push_reserved-2.ensures

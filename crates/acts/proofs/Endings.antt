@@ -1,0 +1,86 @@
+-- How the pins of all sessions are given back, one after another.
+use Rattle.std.proofs.Common.{◌≡◌, ℕ, ◌+◌, ◌<◌, List, [], ◌∷◌, ◌++◌, length, get_or, drop, Option, suc, sym, subst, ap, ◌∙◌, arith, inl, inr, drop-cons}
+use Rattle.std.specs.Prelude.{Contains}
+use Rattle.std.proofs.lemmas.List.{get_or_default}
+use Rattle.std.proofs.lemmas.List.Elements.{Contains-append_left, Contains-append_right, Contains-append_cases}
+use Rattle.page_spec.specs.PageMap.{PageMap}
+use Rattle.run_spec.specs.declared.pins.Pin.{Pin}
+use Rattle.run_spec.specs.Seen.{Seen}
+use Rattle.acts.specs.declared.seats.Seat.{Seat}
+use Rattle.acts.specs.Pagers.{pins_in, pins_of, EndsAll}
+use Rattle.acts.specs.Turns.{AllLive, Stays}
+use Rattle.acts.proofs.Seatings.{wider}
+
+-- the pins from one seat on
+pub pins_drop : (seats : List Seat) (i : ℕ) (seat : Seat) → i < length seats → seat ≡ get_or seats i seat
+    → pins_of (drop i seats) ≡ pins_in seat.state ++ pins_of (drop (i + 1) seats)
+pins_drop seats i seat within item =
+    let next : suc i ≡ i + 1 = omega arith in
+    ap pins_of (drop-cons seats i seat within)
+    ∙ (ap (λ (one : Seat). pins_in one.state ++ pins_of (drop (suc i) seats)) (sym item)
+    ∙ ap (λ (k : ℕ). pins_in seat.state ++ pins_of (drop k seats)) next)
+
+-- some pins are given back, and then others
+ends_both : (some others : List Pin) (old mid new : Seen) → EndsAll some old mid → EndsAll others mid new → EndsAll (some ++ others) old new
+ends_both [] others old mid new same rest = subst (λ (seen : Seen). EndsAll others seen new) same rest
+ends_both (pin ∷ some) others old mid new (first, ends, more) rest = (first, ends, ends_both some others first mid new more rest)
+
+pub ends_from : (seats : List Seat) (i : ℕ) (seat : Seat) (old mid new : Seen) → i < length seats → seat ≡ get_or seats i seat
+    → EndsAll (pins_in seat.state) old mid → EndsAll (pins_of (drop (i + 1) seats)) mid new → EndsAll (pins_of (drop i seats)) old new
+ends_from seats i seat old mid new within item some rest =
+    subst (λ (pins : List Pin). EndsAll pins old new) (sym (pins_drop seats i seat within item))
+    (ends_both (pins_in seat.state) (pins_of (drop (i + 1) seats)) old mid new some rest)
+
+-- the pin of a seat holds where those from it on do
+pub live_from : {E : Type 0} (live : E → List Pin → Type 0) (engine : E) (seats : List Seat) (i : ℕ) (seat : Seat) (others : List Pin)
+    → i < length seats → seat ≡ get_or seats i seat → live engine (pins_of (drop i seats) ++ others) → AllLive live engine (pins_in seat.state)
+live_from live engine seats i seat others within item lives = λ k d inside.
+    (let pin = get_or (pins_in seat.state) k d in
+    let here : Contains (pins_in seat.state) pin = (k, inside, get_or_default (pins_in seat.state) k pin d inside) in (
+      pins_of (drop i seats) ++ others,
+      lives,
+      Contains-append_left (pins_of (drop i seats)) others pin
+          (subst (λ (pins : List Pin). Contains pins pin) (sym (pins_drop seats i seat within item))
+          (Contains-append_left (pins_in seat.state) (pins_of (drop (i + 1) seats)) pin here)),
+    ))
+
+-- fewer pins among others are among more
+among : (front some rest back : List Pin) (pin : Pin) → Contains (front ++ (rest ++ back)) pin → Contains (front ++ ((some ++ rest) ++ back)) pin
+among front some rest back pin there = elim (Contains-append_cases front (rest ++ back) pin there) [
+  | inl before ↦ Contains-append_left front ((some ++ rest) ++ back) pin before
+  | inr other ↦ elim (Contains-append_cases rest back pin other) [
+    | inl inside ↦ Contains-append_right front ((some ++ rest) ++ back) pin
+        (Contains-append_left (some ++ rest) back pin (Contains-append_right some rest pin inside))
+    | inr after ↦ Contains-append_right front ((some ++ rest) ++ back) pin (Contains-append_right (some ++ rest) back pin after)
+  ]
+]
+
+-- What stays where some pins became others, of which the first were then given back.
+through : {E : Type 0} (seen : E → Seen) (live : E → List Pin → Type 0) (map_at : E → Pin → Option PageMap)
+    (begins : E → PageMap → Type 0) (free alone : E → Type 0) (loans : E → List ℕ) (old mid new : E) (olds some rest : List Pin)
+    → Stays seen live map_at begins free alone loans old olds mid (some ++ rest)
+    → Stays seen live map_at begins free alone loans mid (some ++ rest) new rest
+    → Stays seen live map_at begins free alone loans old olds new rest
+through seen live map_at begins free alone loans old mid new olds some rest first then = record {
+  holds = λ front back lives. then.holds front back (first.holds front back lives);
+  maps = λ front back pin lives was is.
+      then.maps front back pin (first.holds front back lives) (among front some rest back pin is) is
+      ∙ first.maps front back pin lives was (among front some rest back pin is);
+  runs = λ one begun. then.runs one (first.runs one begun);
+  is_free = λ free. then.is_free (first.is_free free);
+  is_alone = λ alone. then.is_alone (first.is_alone alone);
+  references = then.references ∙ first.references;
+  pages = (let a = first.pages in let b = then.pages in omega arith);
+  page_size = then.page_size ∙ first.page_size;
+}
+
+pub stays_from : {E : Type 0} (seen : E → Seen) (live : E → List Pin → Type 0) (map_at : E → Pin → Option PageMap)
+    (begins : E → PageMap → Type 0) (free alone : E → Type 0) (loans : E → List ℕ) (old mid new : E) (olds : List Pin)
+    (seats : List Seat) (i : ℕ) (seat : Seat) → i < length seats → seat ≡ get_or seats i seat
+    → Stays seen live map_at begins free alone loans old olds mid (pins_of (drop i seats))
+    → Stays seen live map_at begins free alone loans mid (pins_in seat.state) new []
+    → Stays seen live map_at begins free alone loans old olds new (pins_of (drop (i + 1) seats))
+stays_from seen live map_at begins free alone loans old mid new olds seats i seat within item first then =
+    through seen live map_at begins free alone loans old mid new olds (pins_in seat.state) (pins_of (drop (i + 1) seats))
+    (subst (λ (pins : List Pin). Stays seen live map_at begins free alone loans old olds mid pins) (pins_drop seats i seat within item) first)
+    (wider seen live map_at begins free alone loans mid (pins_in seat.state) new [] [] (pins_of (drop (i + 1) seats)) then)

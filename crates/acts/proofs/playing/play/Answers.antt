@@ -1,0 +1,17 @@
+use Rattle.std.proofs.Common.{[], ◌∙◌}
+use Rattle.std.proofs.lemmas.List.Elements.{Contains-append_right}
+use Rattle.acts.specs.Pagers.{pins_of}
+use Rattle.acts.proofs.Growth.{grew_all, grew_on}
+use Rattle.acts.proofs.playing.play.Goals as goal
+
+pub returns-clause-grew : goal.returns-clause-grew
+returns-clause-grew g c = grew_on _ _ _ c.play_on-answers.ensures.grew (grew_all (pins_of c.play_on-answers.new.pagers) _ _ c.end.ensures.ends)
+
+pub returns-clause-live : goal.returns-clause-live
+returns-clause-live g c = λ others lives. c.end.ensures.stays.holds [] others (c.play_on-answers.ensures.live others lives)
+
+pub returns-clause-maps : goal.returns-clause-maps
+returns-clause-maps g c = λ others pin lives there.
+    c.end.ensures.stays.maps [] others pin (c.play_on-answers.ensures.live others lives)
+    (Contains-append_right (pins_of c.play_on-answers.new.pagers) others pin there) there
+    ∙ c.play_on-answers.ensures.maps others pin lives there

@@ -1,0 +1,75 @@
+// Playing page lines.
+ghost use Rattle.std.specs.Prelude.{◌≡◌, ◌≤◌, List, [], ◌++◌, Contains, IfOk, All};
+ghost use Rattle.page_spec.specs.PageMap.{PageMap};
+ghost use Rattle.run_spec.specs.declared.pins.Pin.{Pin};
+ghost use Rattle.run_spec.specs.Seen.{Seen};
+ghost use Rattle.acts.specs.Pagers.{IsInRange, pins_of, Plays, EndsAll, Grew};
+
+use crate::Raw;
+use crate::pagers::Pagers;
+use page_face::Engine;
+use run_spec::{Act, Told};
+use std::alloc::{AllocError, Global};
+
+/// Plays acts one after another, and then rolls back what is still open. A transaction may always begin on the engine, its maps
+/// have 16 pages, and no pin of others is needed. The error is want of memory, after some of the acts.
+pub fn play<E: Engine<Raw>>(
+    alloc: Global,
+    engine: &mut E,
+    acts: &[Act],
+) -> Result<Vec<Told>, AllocError>
+    requires free { E.free engine.old }
+    requires pages { 16 ≤ (E.seen engine.old).size }
+    requires range { All IsInRange acts.now }
+    requires live { E.live engine.old [] }
+
+    ensures plays { IfOk result (λ told. Plays (E.alone engine.old) (E.free engine.old) (E.seen engine.old) (E.map_at engine.old) [] acts.now
+        told.items (E.seen engine.new)) }
+
+    // With or without memory.
+    ensures grew { Grew (E.seen engine.old) (E.seen engine.new) }
+    ensures free { E.free engine.new }
+    ensures pages { 16 ≤ (E.seen engine.new).size }
+    ensures page_size { (E.seen engine.new).page_size ≡ (E.seen engine.old).page_size }
+    ensures live { (others : List Pin) → E.live engine.old others → E.live engine.new others }
+    ensures maps { (others : List Pin) (pin : Pin) → E.live engine.old others → Contains others pin → E.map_at engine.new pin ≡ E.map_at engine.old pin }
+    ensures runs { (first : PageMap) → E.begins engine.old first → E.begins engine.new first }
+    ensures alone { E.alone engine.old → E.alone engine.new }
+    ensures loans { E.loans engine.new ≡ E.loans engine.old }
+{
+    let mut pagers = Pagers::new(alloc);
+    let answers = play_on(alloc, engine, &mut pagers, acts);
+    pagers.end(engine);
+    answers
+}
+
+// Plays acts by sessions that have not acted yet.
+fn play_on<E: Engine<Raw>>(
+    alloc: Global,
+    engine: &mut E,
+    pagers: &mut Pagers,
+    acts: &[Act],
+) -> Result<Vec<Told>, AllocError>
+    requires free { E.free engine.old }
+    requires pages { 16 ≤ (E.seen engine.old).size }
+    requires range { All IsInRange acts.now }
+    requires live { E.live engine.old [] }
+    requires none { pagers.old ≡ [] }
+    ensures plays { IfOk result (λ told. (new : Seen) → EndsAll (pins_of pagers.new) (E.seen engine.new) new
+        → Plays (E.alone engine.old) (E.free engine.old) (E.seen engine.old) (E.map_at engine.old) [] acts.now told.items new) }
+    ensures grew { Grew (E.seen engine.old) (E.seen engine.new) }
+    ensures free { E.free engine.new }
+    ensures pages { 16 ≤ (E.seen engine.new).size }
+    ensures page_size { (E.seen engine.new).page_size ≡ (E.seen engine.old).page_size }
+    ensures live { (others : List Pin) → E.live engine.old others → E.live engine.new (pins_of pagers.new ++ others) }
+    ensures maps { (others : List Pin) (pin : Pin) → E.live engine.old others → Contains others pin → E.map_at engine.new pin ≡ E.map_at engine.old pin }
+    ensures runs { (first : PageMap) → E.begins engine.old first → E.begins engine.new first }
+    ensures alone { E.alone engine.old → E.alone engine.new }
+    ensures loans { E.loans engine.new ≡ E.loans engine.old }
+{
+    let mut answers = Vec::new(alloc);
+    for act in acts {
+        answers.push(pagers.act(engine, *act)?)?;
+    }
+    Ok(answers)
+}

@@ -1,0 +1,24 @@
+use Rattle.std.proofs.Common.{◌≡◌, ◌+◌, ◌≤◌, ◌-◌, ℕ, List, true}
+use Rattle.std.specs.Prelude.{IfSome}
+use Rattle.disk_face.specs.Files.{content}
+use Rattle.disk_face.specs.Steps.{reads}
+use Rattle.log_spec.specs.Accept.{Frame, page_numbers}
+use Rattle.log_spec.proofs.ScanLaws.{Scanned}
+use Rattle.wal_frames.specs.Front.{words_of, fields_for}
+use Rattle.wal_frames.proofs.scan.scan.Given as goal
+
+abbrev pub invariant-loop-pages : goal.invariant-loop-pages
+invariant-loop-pages g l = record {
+  within : l.at ≤ l.fn.size;
+  attached : g.D.Disk.attached l.disk ≡ true;
+  told : g.D.Disk.told l.disk ≡ g.D.Disk.told l.fn.disk;
+  faults : g.D.Disk.faults l.fn.disk ≤ g.D.Disk.faults l.disk;
+  loans : g.D.Disk.loans l.disk ≡ g.D.Disk.loans l.fn.disk;
+  journal_answer : g.D.Disk.journal_answer l.disk ≡ g.D.Disk.journal_answer l.fn.disk;
+  scanned : IfSome (g.D.Disk.told l.fn.disk) (λ told. (frames : List Frame)
+      × Scanned (content (reads told) l.fn.file) (fields_for l.fn.header) frames l.at (words_of l.sum) l.kept l.kept_size (words_of l.kept_sum)
+      × (l.pages.items ≡ page_numbers frames));
+}
+
+abbrev pub decreases-loop-pages : goal.decreases-loop-pages
+decreases-loop-pages g l = l.fn.size - l.at

@@ -1,0 +1,271 @@
+ghost use Rattle.std.specs.Prelude.{◌≡◌, ◌⊎◌, ◌+◌, ◌%◌, ◌<◌, ◌^◌, ◌≤◌, true, List, ℕ, length, take, drop, Err, IfOk, IfSome, IfErr, OnOk, OnErr, [], ◌∷◌, ◌++◌, IsTrue, ◌↔◌};
+ghost use Rattle.disk_face.specs.Faults.{Rose};
+ghost use Rattle.disk_face.specs.Files.{content};
+ghost use Rattle.disk_face.specs.Steps.{reads};
+ghost use Rattle.disk_face.specs.Told.{IsSize, IsInside};
+ghost use Rattle.log_spec.specs.Checksum.{checksum};
+ghost use Rattle.page_spec.specs.Header.{is_page_size};
+ghost use Rattle.wal_frames.specs.Front.{words_of, front_of};
+ghost use Rattle.wal_frames.specs.Scan.{FitsHead, TellsOf, NextOf};
+ghost use Rattle.wal_frames.specs.Found.{FindsFrames, FindsAccepted, IsLegalFront, log_file};
+
+use crate::found::{Accepted, ScanFault};
+use crate::header::{Front, LogHeader};
+use crate::read::read_log_header;
+use crate::sum::{Sum, sum_step};
+use be_fields::get_u32;
+use disk_face::{Disk, Failed, File};
+use std::alloc::Global;
+
+/// The checksum after a page's bytes of a file, going on from another. They are read in pieces.
+fn sum_page<D: Disk>(
+    disk: &mut D,
+    file: File,
+    at: u64,
+    page_size: usize,
+    big: bool,
+    sum: Sum,
+) -> Result<Sum, Failed>
+    requires attached { D.attached disk.old ≡ true }
+    requires inside { IsInside (D.told disk.old) file at page_size }
+    requires whole { page_size % 512 ≡ 0 }
+    requires short { at + page_size < 2 ^ 64 }
+    ensures sum { IfOk result (λ after. IfSome (D.told disk.old)
+        (λ told. words_of after ≡ checksum big (words_of sum) (take page_size (drop at (content (reads told) file))))) }
+    ensures cause { OnErr result (Rose (D.faults disk.old) (D.faults disk.new)) }
+    ensures faults { D.faults disk.old ≤ D.faults disk.new }
+    ensures loans { D.loans disk.new ≡ D.loans disk.old }
+    ensures journal_answer { D.journal_answer disk.new ≡ D.journal_answer disk.old }
+    ensures attached { D.attached disk.new ≡ D.attached disk.old }
+    ensures told { D.told disk.new ≡ D.told disk.old }
+{
+    let mut piece = [0u8; 512];
+    let mut after = sum;
+    let mut done = 0;
+    while done < page_size {
+        disk.read_at(file, at + done as u64, &mut piece)?;
+        after = sum_step(after, big, &piece);
+        done += 512;
+    }
+    Ok(after)
+}
+
+/// What a valid frame tells.
+#[derive(Clone, Copy)]
+struct FrameTold {
+    /// The number of the page that it holds.
+    page: u32,
+    /// The size of the database in pages after the commit that it ends, 0 where it ends none.
+    size: u32,
+    /// The checksum after it.
+    sum: Sum,
+}
+
+/// Whether the header of a frame has a page number, the salts of the log's header, and this checksum.
+fn fits_head(head: &[u8], header: &LogHeader, after: Sum) -> bool
+    requires { 24 ≤ length head.now }
+    ensures { IsTrue result ↔ FitsHead head.now header.now (words_of after) }
+{
+    get_u32(head, 0) != 0
+        && get_u32(head, 8) == header.salt1
+        && get_u32(head, 12) == header.salt2
+        && get_u32(head, 16) == after.s0
+        && get_u32(head, 20) == after.s1
+}
+
+/// What the frame at a place of a file tells, where the frames before it left this checksum. None where it isn't valid.
+fn read_frame<D: Disk>(
+    disk: &mut D,
+    file: File,
+    at: u64,
+    header: &LogHeader,
+    sum: Sum,
+) -> Result<Option<FrameTold>, Failed>
+    requires attached { D.attached disk.old ≡ true }
+    requires size { IsTrue (is_page_size header.now.page_size) }
+    requires inside { IsInside (D.told disk.old) file at (24 + header.now.page_size) }
+    requires short { at + (24 + header.now.page_size) < 2 ^ 64 }
+    ensures frame { IfOk result (λ found. IfSome (D.told disk.old)
+        (λ told. TellsOf header.now (words_of sum) (take (24 + header.now.page_size) (drop at (content (reads told) file))) found)) }
+    ensures cause { OnErr result (Rose (D.faults disk.old) (D.faults disk.new)) }
+    ensures faults { D.faults disk.old ≤ D.faults disk.new }
+    ensures loans { D.loans disk.new ≡ D.loans disk.old }
+    ensures journal_answer { D.journal_answer disk.new ≡ D.journal_answer disk.old }
+    ensures attached { D.attached disk.new ≡ D.attached disk.old }
+    ensures told { D.told disk.new ≡ D.told disk.old }
+{
+    let mut head = [0u8; 24];
+    disk.read_at(file, at, &mut head)?;
+    let after = sum_step(sum, header.big, &head[..8]);
+    let after = sum_page(
+        disk,
+        file,
+        at + 24,
+        header.page_size as usize,
+        header.big,
+        after,
+    )?;
+    if fits_head(&head, header, after) {
+        Ok(Some(FrameTold {
+            page: get_u32(&head, 0),
+            size: get_u32(&head, 4),
+            sum: after,
+        }))
+    } else {
+        Ok(None)
+    }
+}
+
+/// What the next frame tells. None where the file has no room for one there, or the frame isn't valid.
+fn next_frame<D: Disk>(
+    disk: &mut D,
+    file: File,
+    size: u64,
+    at: u64,
+    header: &LogHeader,
+    sum: Sum,
+) -> Result<Option<FrameTold>, ScanFault>
+    requires attached { D.attached disk.old ≡ true }
+    requires legal { IsTrue (is_page_size header.now.page_size) }
+    requires sized { IsSize (D.told disk.old) file size }
+    requires within { at ≤ size }
+    ensures frame { IfOk result (λ found. IfSome (D.told disk.old)
+        (λ told. NextOf header.now (words_of sum) (content (reads told) file) at found)) }
+    ensures room { IfOk result (λ found. IfSome found (λ frame. at + (24 + header.now.page_size) ≤ size)) }
+    ensures cause { result ≡ Err ScanFault.Disk → Rose (D.faults disk.old) (D.faults disk.new) }
+    ensures disk_only { result ≡ Err ScanFault.Memory → ⊥ }
+    ensures faults { D.faults disk.old ≤ D.faults disk.new }
+    ensures loans { D.loans disk.new ≡ D.loans disk.old }
+    ensures journal_answer { D.journal_answer disk.new ≡ D.journal_answer disk.old }
+    ensures attached { D.attached disk.new ≡ D.attached disk.old }
+    ensures told { D.told disk.new ≡ D.told disk.old }
+{
+    if size - at < 24 + u64::from(header.page_size) {
+        return Ok(None);
+    }
+    match read_frame(disk, file, at, header, sum) {
+        Ok(found) => Ok(found),
+        Err(Failed) => Err(ScanFault::Disk),
+    }
+}
+
+/// Appends a page number.
+fn add_page(pages: &mut Vec<u32>, page: u32) -> Result<(), ScanFault>
+    ensures ok { OnOk result (pages.new.items ≡ pages.old.items ++ page ∷ []) }
+    ensures memory { IfErr result (λ fault. fault ≡ ScanFault.Memory) }
+{
+    match pages.push(page) {
+        Ok(()) => Ok(()),
+        Err(_) => Err(ScanFault::Memory),
+    }
+}
+
+/// Finds the frames after a header of ours that are accepted. Each is read once, in pieces.
+fn scan<D: Disk>(
+    alloc: Global,
+    disk: &mut D,
+    file: File,
+    size: u64,
+    header: &LogHeader,
+) -> Result<Accepted, ScanFault>
+    requires attached { D.attached disk.old ≡ true }
+    requires legal { IsTrue (is_page_size header.now.page_size) }
+    requires sized { IsSize (D.told disk.old) file size }
+    requires long { 32 ≤ size }
+    ensures front { IfOk result (λ found. found.front ≡ Front.Ours header.now) }
+    ensures found { IfOk result (λ found. IfSome (D.told disk.old)
+        (λ told. FindsFrames header.now (content (reads told) file) found)) }
+    ensures cause { result ≡ Err ScanFault.Disk → Rose (D.faults disk.old) (D.faults disk.new) }
+    ensures faults { D.faults disk.old ≤ D.faults disk.new }
+    ensures loans { D.loans disk.new ≡ D.loans disk.old }
+    ensures journal_answer { D.journal_answer disk.new ≡ D.journal_answer disk.old }
+    ensures attached { D.attached disk.new ≡ D.attached disk.old }
+    ensures told { D.told disk.new ≡ D.told disk.old }
+{
+    let mut pages = Vec::new(alloc);
+    let mut kept = 0;
+    let mut kept_size = 0;
+    let mut kept_sum = header.sum;
+    let mut at = 32;
+    let mut sum = header.sum;
+    while let Some(frame) = next_frame(disk, file, size, at, header, sum)? {
+        add_page(&mut pages, frame.page)?;
+        at += 24 + u64::from(header.page_size);
+        sum = frame.sum;
+        if frame.size != 0 {
+            kept = pages.len();
+            kept_size = frame.size;
+            kept_sum = sum;
+        }
+    }
+    pages.truncate(kept);
+    Ok(Accepted {
+        front: Front::Ours(*header),
+        pages,
+        size: kept_size,
+        sum: kept_sum,
+    })
+}
+
+/// What a log on a disk begins with.
+fn read_front<D: Disk>(disk: &mut D, file: File, size: u64, log: u8) -> Result<Front, ScanFault>
+    requires which { (log ≡ 1) ⊎ (log ≡ 2) }
+    requires attached { D.attached disk.old ≡ true }
+    requires sized { IsSize (D.told disk.old) file size }
+    ensures front { IfOk result (λ front. IfSome (D.told disk.old) (λ told. front ≡ front_of log (content (reads told) file))) }
+    ensures ours { IfOk result (λ front. IsLegalFront front size) }
+    ensures cause { IfErr result (λ fault. (fault ≡ ScanFault.Disk) × Rose (D.faults disk.old) (D.faults disk.new)) }
+    ensures faults { D.faults disk.old ≤ D.faults disk.new }
+    ensures loans { D.loans disk.new ≡ D.loans disk.old }
+    ensures journal_answer { D.journal_answer disk.new ≡ D.journal_answer disk.old }
+    ensures attached { D.attached disk.new ≡ D.attached disk.old }
+    ensures told { D.told disk.new ≡ D.told disk.old }
+{
+    if size < 32 {
+        return Ok(Front::Nothing);
+    }
+    let mut bytes = [0u8; 32];
+    match disk.read_at(file, 0, &mut bytes) {
+        Ok(()) => Ok(read_log_header(&bytes, log)),
+        Err(Failed) => Err(ScanFault::Disk),
+    }
+}
+
+/// Finds what is accepted of log 1 or log 2: its header, if that is ours, and the longest list of valid frames after it that
+/// ends in a commit frame.
+///
+/// The log is read once, in pieces of at most 512 bytes, and nothing is written. Memory is taken for page numbers alone.
+pub fn accepted<D: Disk>(alloc: Global, disk: &mut D, log: u8) -> Result<Accepted, ScanFault>
+    requires which { (log ≡ 1) ⊎ (log ≡ 2) }
+    requires attached { D.attached disk.old ≡ true }
+    ensures found { IfOk result (λ found. IfSome (D.told disk.old)
+        (λ told. FindsAccepted log (content (reads told) (log_file log)) found)) }
+    ensures cause { result ≡ Err ScanFault.Disk → Rose (D.faults disk.old) (D.faults disk.new) }
+    ensures faults { D.faults disk.old ≤ D.faults disk.new }
+    ensures loans { D.loans disk.new ≡ D.loans disk.old }
+    ensures journal_answer { D.journal_answer disk.new ≡ D.journal_answer disk.old }
+    ensures attached { D.attached disk.new ≡ D.attached disk.old }
+    ensures told { D.told disk.new ≡ D.told disk.old }
+{
+    let file = log_file(log);
+    let Ok(size) = disk.size(file) else {
+        return Err(ScanFault::Disk);
+    };
+    let front = read_front(disk, file, size, log)?;
+    match front {
+        Front::Ours(header) => scan(alloc, disk, file, size, &header),
+        other => Ok(Accepted {
+            front: other,
+            pages: Vec::new(alloc),
+            size: 0,
+            sum: Sum { s0: 0, s1: 0 },
+        }),
+    }
+}
+
+/// The file of log 1 or log 2.
+fn log_file(log: u8) -> File
+    ensures { result ≡ log_file log }
+{
+    if log == 1 { File::Log1 } else { File::Log2 }
+}
