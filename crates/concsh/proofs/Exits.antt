@@ -193,7 +193,7 @@ cut_there (Some script) left left' before mid now number status old new memory s
       piece = new.pending;
       unended = unended;
       given = IfSome_then left' (left_after new.pending left' s.rest (same ∙ s.told))
-        (λ bytes e. script_cut script number old.passed (script_left old left) before mid memory s ∙ ap (λ x. concat (take count (raw_lines script)) ++ x) e);
+          (λ bytes e. script_cut script number old.passed (script_left old left) before mid memory s ∙ ap (λ x. concat (take count (raw_lines script)) ++ x) e);
     } in
     let first : take count (lines_run 0 (raw_lines script)) ≡ s.ran = ap (take count) s.lines ∙ take_at s.ran more count refl in
     let text : cut_text script count ≡ done ++ source_failed = ap (λ x. replies start (filter_map act_in x) ++ source_failed) first in

@@ -28,5 +28,5 @@ PutsFront-after a b c xs ys more text p q e =
 pub Rose-later : (a b c : ℕ) → a ≤ b → Rose b c → Rose a c
 Rose-later a b c h rose = record {
   later = omega (arith, h, rose.later);
-  counted = elim rose.counted [ | inl less ↦ inl (omega (arith, h, less)) | inr last ↦ inr last ];
+  counted = elim rose.counted [ inl less ↦ inl (omega (arith, h, less)) | inr last ↦ inr last ];
 }

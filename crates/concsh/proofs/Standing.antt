@@ -32,8 +32,17 @@ pub record Standing (script : List ℕ) (number passed : ℕ) (left before now :
 -- a run that has begun
 pub Standing-start : (script : List ℕ) (left before : Option (List ℕ)) (memory : Memory) → left ≡ Some script → IsAt memory start → Standing script 1 0 left before before memory
 Standing-start script left before memory told world = record {
-  ran = []; raws = []; rest = script; told = told; count = refl; same = refl; cut = refl; lines = refl; refused = refl;
-  written = Puts-nothing before; world = world;
+  ran = [];
+  raws = [];
+  rest = script;
+  told = told;
+  count = refl;
+  same = refl;
+  cut = refl;
+  lines = refl;
+  refused = refl;
+  written = Puts-nothing before;
+  world = world;
 }
 
 -- what is left, where the source tells it
@@ -83,9 +92,10 @@ text-front script ran more e =
     let others = filter_map act_in more in
     let last = cond (is_refused 0 (raw_lines script)) (refused_text (1 + length (lines_run 0 (raw_lines script)))) [] in
     let all : replies start (filter_map act_in (lines_run 0 (raw_lines script))) ≡ replies start acts ++ replies (after start acts) others =
-    ap (λ x. replies start (filter_map act_in x)) e ∙ (ap (replies start) (filter_map-append act_in ran more) ∙ replies-append start acts others) in
-    (replies (after start acts) others ++ last,
-    sym (append_assoc (replies start acts) (replies (after start acts) others) last) ∙ ap (λ x. x ++ last) (sym all))
+    ap (λ x. replies start (filter_map act_in x)) e ∙ (ap (replies start) (filter_map-append act_in ran more) ∙ replies-append start acts others) in (
+      replies (after start acts) others ++ last,
+      sym (append_assoc (replies start acts) (replies (after start acts) others) last) ∙ ap (λ x. x ++ last) (sym all),
+    )
 
 -- the next line is taken
 pub lines-next : (passed : ℕ) (raw : List ℕ) (raws : List (List ℕ)) (line : Line) → line_in passed raw ≡ Some line → lines_run passed (raw ∷ raws) ≡ line ∷ lines_run (passed + length raw) raws
@@ -118,7 +128,7 @@ Standing-more script number passed passed' left left' before now now' memory mem
   same = omega (arith, s.same, length-append s.ran (line ∷ []), length-append s.raws (raw ∷ []));
   cut = s.cut ∙ (ap (λ x. s.raws ++ x) first ∙ sym (append_assoc s.raws (raw ∷ []) (raw_lines rest')));
   lines = lines-more script number passed left before now memory raw rest' line s first taken
-    ∙ ap (λ p. (s.ran ++ line ∷ []) ++ lines_run p (raw_lines rest')) (sym size);
+      ∙ ap (λ p. (s.ran ++ line ∷ []) ++ lines_run p (raw_lines rest')) (sym size);
   refused = s.refused ∙ (ap (is_refused passed) first ∙ (refused-next passed raw (raw_lines rest') line taken ∙ ap (λ p. is_refused p (raw_lines rest')) (sym size)));
   written = subst (λ x. Puts before x now') (sym (replies-more s.ran line)) (Puts-more before now now' (replies start (filter_map act_in s.ran)) (replies (after start (filter_map act_in s.ran)) (acts_in line)) s.written written);
   world = subst (IsAt memory') (sym (after-more s.ran line)) world;

@@ -12,13 +12,12 @@ mod top;
 use disk_face::Word;
 use disk_real::{FileDisk, NumberSalts, StdSink, StdSource};
 use std::alloc::Global;
-use std::env;
 use std::env::Env;
 use std::hash::{BuildHasher, RandomState};
-use std::io;
 use std::io::ErrorKind;
 use std::process::ExitCode;
 use std::random::RandomSource;
+use std::{env, io};
 use top::top;
 
 fn main(rt: HostRuntime) -> ExitCode {
@@ -30,14 +29,7 @@ fn main(rt: HostRuntime) -> ExitCode {
     let mut source = StdSource::new(&rt);
     let mut sink = StdSink::new(&rt);
     let mut salts = NumberSalts::new(first_salt(&rt));
-    ExitCode::from(top(
-        alloc,
-        &words,
-        &mut disk,
-        &mut source,
-        &mut sink,
-        &mut salts,
-    ))
+    ExitCode::from(top(alloc, &words, &mut disk, &mut source, &mut sink, &mut salts))
 }
 
 /// The words of the command line after the program's name. Words that aren't UTF-8 ask for nothing that there is, and none

@@ -5,6 +5,7 @@ use std::alloc::{AllocError, Global};
 use std::test::Fail;
 
 /// One run, and what it has to come to.
+#[derive(Drop)]
 struct Row {
     /// The word of the command line.
     word: &'static [u8],
@@ -40,14 +41,7 @@ fn run(
     let mut source = MemSource::new(script, piece.max(1), source_fails);
     let mut sink = MemSink::new(alloc, piece.max(1), sink_fails);
     let mut salts = FixedSalts::new(Vec::new(alloc));
-    let status = top(
-        alloc,
-        &words,
-        &mut disk,
-        &mut source,
-        &mut sink,
-        &mut salts,
-    );
+    let status = top(alloc, &words, &mut disk, &mut source, &mut sink, &mut salts);
     Ok((status, sink))
 }
 
@@ -64,9 +58,11 @@ fn plain(script: &'static [u8], status: u8, written: &'static [u8]) -> Row {
     }
 }
 
-const SNAPSHOTS: &[u8] = b"1: BEGIN\n2: BEGIN\n1: READ 2\n2: WRITE 2 7\n2: COMMIT\n1: WRITE 3 9\n1: READ 2\n1: COMMIT\n1: READ 2\n1: ROLLBACK\n1: BEGIN\n1: READ 2\n1: READ 3\n";
+const SNAPSHOTS: &[u8] =
+    b"1: BEGIN\n2: BEGIN\n1: READ 2\n2: WRITE 2 7\n2: COMMIT\n1: WRITE 3 9\n1: READ 2\n1: COMMIT\n1: READ 2\n1: ROLLBACK\n1: BEGIN\n1: READ 2\n1: READ 3\n";
 
-const SNAPSHOTS_REPLIES: &[u8] = b"1: ok\n2: ok\n1: byte 0\n2: ok\n2: commit 1\n1: ok\n1: byte 0\n1: error busy snapshot page 2 commit 1\n1: error must roll back\n1: ok\n1: ok\n1: byte 7\n1: byte 0\n";
+const SNAPSHOTS_REPLIES: &[u8] =
+    b"1: ok\n2: ok\n1: byte 0\n2: ok\n2: commit 1\n1: ok\n1: byte 0\n1: error busy snapshot page 2 commit 1\n1: error must roll back\n1: ok\n1: ok\n1: byte 7\n1: byte 0\n";
 
 #[test]
 fn scripts_and_faults(rt: HostRuntime) -> Result<(), Fail> {
@@ -86,8 +82,16 @@ fn scripts_and_faults(rt: HostRuntime) -> Result<(), Fail> {
             1,
             b"1: ok\nscript refused at line 5\n",
         ),
-        plain(b"0: LOGS\n0: CHECKPOINT\n0: STEP\n", 0, b"0: log 1 frames 0 other done\n0: idle\n0: idle\n"),
-        plain(b"1: BEGIN\n#\xff\n1: READ 2\n", 1, b"1: ok\nscript refused at line 2\n"),
+        plain(
+            b"0: LOGS\n0: CHECKPOINT\n0: STEP\n",
+            0,
+            b"0: log 1 frames 0 other done\n0: idle\n0: idle\n",
+        ),
+        plain(
+            b"1: BEGIN\n#\xff\n1: READ 2\n",
+            1,
+            b"1: ok\nscript refused at line 2\n",
+        ),
         Row {
             word: b"frob",
             ..plain(SNAPSHOTS, 2, b"words refused\n")
