@@ -11,8 +11,9 @@ use page_face::Engine;
 use run_spec::{Act, Told};
 use std::alloc::{AllocError, Global};
 
-/// Plays acts one after another, and then rolls back what is still open. A transaction may always begin on the engine, its maps
-/// have 16 pages, and no pin of others is needed. The error is want of memory, after some of the acts.
+/// Plays acts one after another, by sessions that haven't acted yet, and then rolls back what is still open. It needs an engine on
+/// which a transaction may always begin, and whose maps have 16 pages. The error is want of memory: the acts before it were done,
+/// and what they left open is rolled back too.
 pub fn play<E: Engine<Raw>>(
     alloc: Global,
     engine: &mut E,
@@ -43,7 +44,7 @@ pub fn play<E: Engine<Raw>>(
     answers
 }
 
-// Plays acts by sessions that have not acted yet.
+// Plays acts, and leaves open what they leave open.
 fn play_on<E: Engine<Raw>>(
     alloc: Global,
     engine: &mut E,

@@ -6,3 +6,4 @@ pub mod Fronts
 pub mod Standing
 pub mod Exits
 pub mod Serial
+mod WorkedRuns

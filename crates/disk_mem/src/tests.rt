@@ -1,10 +1,38 @@
 // What fails, what a crash leaves, and pieces that are given and taken.
 ghost use Rattle.std.specs.Prelude.{◌≡◌, true, false, IfOk};
 
-use crate::{Call, Fail, MemDisk};
-use disk_face::{Disk, Failed, File};
+use crate::{Call, Fail, FixedSalts, MemDisk, MemSink, MemSource};
+use disk_face::{Disk, Failed, File, Salts, Sink, Source};
 use std::alloc::{AllocError, Global};
 use std::test;
+
+#[test]
+fn pieces_are_bounded_and_one_call_fails(rt: HostRuntime) -> Result<(), test::Fail> {
+    let mut source = MemSource::new(b"abc".to_vec(rt.alloc())?, 2, Some(2));
+    let mut buf = [0; 4];
+    assert_eq!(rt; source.take(&mut buf), Ok(2));
+    assert_eq!(rt; source.take(&mut buf), Err(Failed));
+    assert_eq!(rt; source.take(&mut buf), Ok(1));
+    assert_eq!(rt; buf, *b"cb\0\0");
+    Ok(())
+}
+
+#[test]
+fn a_sink_keeps_what_is_put(rt: HostRuntime) -> Result<(), test::Fail> {
+    let mut sink = MemSink::new(rt.alloc(), 3, Some(2));
+    assert_eq!(rt; sink.put(b"abcd"), Ok(3));
+    assert_eq!(rt; sink.put(b"d"), Err(Failed));
+    assert_eq!(rt; sink.written(), b"abc".as_slice());
+    Ok(())
+}
+
+#[test]
+fn salts_are_given_in_turn_and_then_0(rt: HostRuntime) -> Result<(), test::Fail> {
+    let mut salts = FixedSalts::new([7].to_vec(rt.alloc())?);
+    assert_eq!(rt; salts.word(), 7);
+    assert_eq!(rt; salts.word(), 0);
+    Ok(())
+}
 
 const SECOND_WRITE: Fail = Fail {
     file: File::Main,
