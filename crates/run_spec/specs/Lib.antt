@@ -7,5 +7,6 @@ pub mod Good
 pub mod PageLines
 pub mod PageLineLaws
 pub mod World
+pub mod Alike
 pub mod Reply
 pub mod Serial
