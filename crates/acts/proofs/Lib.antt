@@ -1,7 +1,3 @@
-pub mod Moments
-pub mod PlainPins
-pub mod PlainCommits
-pub mod CommitKeeps
 pub mod SeatLaws
 pub mod Telling
 pub mod Standing
@@ -13,4 +9,3 @@ pub mod Copying
 pub mod Growth
 pub mod Endings
 pub mod Runs
-pub mod SharedMoves

@@ -10,7 +10,7 @@ use Rattle.run_spec.specs.World.{World, step, world_over}
 use Rattle.run_spec.proofs.Alone.{IsStore}
 use Rattle.acts.specs.declared.seats.Seat.{Seat}
 use Rattle.acts.specs.Pagers.{Between, Acts, AreSound, pins_of}
-use Rattle.acts.specs.Plain.{PlainState, IsPlain, PlainLive, newest_of, plain_seen}
+use Rattle.memory_engine.specs.Plain.{PlainState, IsPlain, PlainLive, newest_of, plain_seen}
 use Rattle.acts.specs.InMemory.{Memory, IsAt}
 use Rattle.acts.proofs.Standing.{Stands, acts_stand, stay, tells_quiet}
 

@@ -13,7 +13,7 @@ use Rattle.acts.specs.declared.seats.State.{State}
 use Rattle.acts.specs.declared.seats.State.TheVariants as seat
 use Rattle.acts.specs.declared.seats.Transaction.{Transaction}
 use Rattle.acts.specs.Pagers.{state_of, begun_of, pins_of, AreSound}
-use Rattle.acts.specs.Plain.{PlainState, PlainLive, plain_seen}
+use Rattle.memory_engine.specs.Plain.{PlainState, PlainLive, plain_seen}
 
 -- The engine tells of the last of these maps, which is a page store, and of these commits. No disk failed, and it keeps no logs.
 pub record TellsOf (seen : Seen) (maps : List PageMap) (history : List Commit) : Type 0 where

@@ -7,10 +7,9 @@ ghost use Rattle.run_spec.specs.Seen.{Found, OnlyFaults};
 ghost use Rattle.acts.specs.Pagers.{Acts, AreSound, EndsAll, IsInRange, pins_of};
 ghost use Rattle.acts.specs.Turns.{act_of, Stays};
 
-use crate::Raw;
 use crate::seats::{Seat, State};
 use crate::turns::{Deed, begin_again, begin_out, copy, end_one, logs, step, turn};
-use page_face::Engine;
+use page_face::{Engine, Raw};
 use run_spec::{Act, Told};
 use std::alloc::{AllocError, Global};
 use std::marker::Model;

@@ -5,9 +5,8 @@ ghost use Rattle.run_spec.specs.declared.pins.Pin.{Pin};
 ghost use Rattle.run_spec.specs.Seen.{Seen};
 ghost use Rattle.acts.specs.Pagers.{IsInRange, pins_of, Plays, EndsAll, Grew};
 
-use crate::Raw;
 use crate::pagers::Pagers;
-use page_face::Engine;
+use page_face::{Engine, Raw};
 use run_spec::{Act, Told};
 use std::alloc::{AllocError, Global};
 

@@ -13,11 +13,10 @@ ghost use Rattle.acts.specs.Turns.{act_of, Moves, AllLive, Stays, IsRefused, Has
 ghost use Rattle.run_spec.specs.declared.pins.Pin.{Pin};
 ghost use Rattle.run_spec.specs.declared.lines.Told.TheVariants as reply;
 
-use crate::Raw;
 use crate::seats::{Seat, State, Transaction};
 use crate::transaction::{note_fetch, note_own, note_write, own_byte};
 use disk_face::Failed;
-use page_face::{Ckpt, CommitFault, Engine, Mode, Pin, Prepared, ReadSet, Who};
+use page_face::{Ckpt, CommitFault, Engine, Mode, Pin, Prepared, Raw, ReadSet, Who};
 use run_spec::Told;
 use sqlite_items::Items;
 use std::alloc::{AllocError, Global};

@@ -1,8 +1,0 @@
-use Rattle.std.proofs.Common.{refl, ◌≤◌, arith}
-use Rattle.acts.proofs.Moments.{later_same}
-use Rattle.acts.specs.Plain.{plain_seen}
-use Rattle.acts.proofs.plain.PlainEngine.ckpt.Goals as goal
-
-pub returns-clause-answer : goal.returns-clause-answer
-returns-clause-answer g c =
-    (plain_seen c.args.self.now, later_same (Unit {0}) (Unit {0}) (plain_seen c.args.self.now), ((refl, refl), (let none : 0 ≤ 0 = omega arith in none), refl))

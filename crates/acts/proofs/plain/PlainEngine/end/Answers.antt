@@ -1,5 +1,0 @@
-use Rattle.acts.proofs.PlainPins.{takes_pin}
-use Rattle.acts.proofs.plain.PlainEngine.end.Goals as goal
-
-pub returns-clause-pins : goal.returns-clause-pins
-returns-clause-pins g c = takes_pin c.args.self.now c.args.pin

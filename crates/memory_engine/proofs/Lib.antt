@@ -1,0 +1,5 @@
+pub mod Moments
+pub mod PlainPins
+pub mod PlainCommits
+pub mod CommitKeeps
+pub mod SharedMoves
