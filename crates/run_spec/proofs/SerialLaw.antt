@@ -22,7 +22,8 @@ use Rattle.run_spec.specs.Change.{laid}
 use Rattle.run_spec.specs.History.{counts, is_written, conflict, NoConflict}
 use Rattle.run_spec.specs.Seen.{commit_of}
 use Rattle.run_spec.specs.World.{World, SessionState, Out, Open, Refused, Transaction, changed_at, map_number, newest_map, change_of, submitted, moved, committed, decided, commit, begin_step, read_step, write_step, commit_step, rollback_step, step, after, world_over, zeros, start}
-use Rattle.run_spec.specs.Serial.{IsSerialCommit, SeesSnapshot, IsSerial, IsSerialFrom, IsInRange, AreInRange}
+use Rattle.run_spec.specs.Range.{IsInRange, AreInRange}
+use Rattle.run_spec.specs.Serial.{IsSerialCommit, SeesSnapshot, IsSerial, IsSerialFrom}
 use Rattle.run_spec.proofs.Conflicts.{no_conflict}
 use Rattle.run_spec.proofs.Laying.{laid-put, laid-page_size, put_pages-at, agree_refl, agree_trans, agree_laid}
 use Rattle.run_spec.proofs.GoodLines.{legal_size, lines_whole, laid-store}
@@ -408,13 +409,13 @@ world_is_serial s first world whole = record {
 }
 
 -- 16 pages of one legal size, with a zero at byte 100, are a page store
-alike_are_store : (row : List ℕ) (s : ℕ) → length row ≡ s → Contains page_sizes s → slice_index row 100 ≡ 0
-    → IsStore s (replicate 16 row)
-alike_are_store row s is legal none = record {
+alike_are_store : (bytes : List ℕ) (s : ℕ) → length bytes ≡ s → Contains page_sizes s → slice_index bytes 100 ≡ 0
+    → IsStore s (replicate 16 bytes)
+alike_are_store bytes s is legal none = record {
   store = record {
-    count = length-replicate 16 row;
+    count = length-replicate 16 bytes;
     size = subst (Contains page_sizes) (sym is) legal;
-    each = All-replicate (λ (page : List ℕ). length page ≡ length row) 16 row refl;
+    each = All-replicate (λ (page : List ℕ). length page ≡ length bytes) 16 bytes refl;
     no_tree = none;
   };
   size = is;
@@ -424,9 +425,9 @@ alike_are_store row s is legal none = record {
 pub zeros_are_store : IsStore 4096 zeros
 unfolding zeros
 zeros_are_store =
-    let row : List ℕ = replicate 4096 0 in
+    let bytes : List ℕ = replicate 4096 0 in
     let none : ℕ = 0 in
-    alike_are_store row 4096 (length-replicate 4096 none) (3, omega arith, refl) refl
+    alike_are_store bytes 4096 (length-replicate 4096 none) (3, omega arith, refl) refl
 
 -- a world in which nothing has happened yet
 pub world_over-is : (s : ℕ) (first : PageMap) → IsStore s first → IsWorld s first (world_over first)
