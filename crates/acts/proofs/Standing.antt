@@ -1,7 +1,8 @@
 -- What an act over an engine does is what it does to the world.
 use Rattle.std.proofs.Common.{◌≡◌, ◌∙◌, ℕ, ◌+◌, Bool, true, false, cond, List, [], ◌∷◌, ◌++◌, length, replicate, refl, sym, ap, subst, inl, inr, arith, get_or, eq-eqb}
-use Rattle.std.specs.Prelude.{Option, Some, None, Contains, slice_index, unwrap_or, IfSome}
+use Rattle.std.specs.Prelude.{◌⊎◌, Option, Some, None, Contains, slice_index, unwrap_or, IfSome}
 use Rattle.std.proofs.lemmas.Bool.{cases_eq, ne_eqb}
+use Rattle.disk_face.specs.Faults.{Rose}
 use Rattle.page_spec.specs.PageMap.{PageMap, page_at, page_size_of}
 use Rattle.run_spec.specs.declared.pins.Pin.{Pin}
 use Rattle.run_spec.specs.declared.pins.Ckpt.{Ckpt}
@@ -31,17 +32,23 @@ use Rattle.acts.specs.declared.seats.State.{State}
 use Rattle.acts.specs.declared.seats.State.TheVariants as seat
 use Rattle.acts.specs.declared.seats.Transaction.{Transaction}
 use Rattle.acts.specs.Pagers.{Between, Acts, Same, BeginActs, ReadOpen, ReadActs, WriteActs, CommitOpen, CommitActs, RollbackActs, StepActs, Copies, AreSound, IsSoundTransaction, IsSoundState, state_of, begun_of, with_seat, pins_in, pins_of, submitted_of}
+use Rattle.acts.specs.Playing.{IsOfSession, HasNoLimit}
 use Rattle.acts.specs.InMemory.{TellsOf, PinStands, IsTransaction, Matches, StandsAt}
 use Rattle.acts.proofs.SeatLaws.{state_of-same, state_of-other, begun_of-same, begun_of-other, pin_there, sound_at}
-use Rattle.acts.proofs.Telling.{Extends, extends_same, extends_push, pin_keeps, tells_as, tells_more, never_rose, not_over}
+use Rattle.acts.proofs.Telling.{Extends, extends_same, extends_push, pin_keeps, tells_as, tells_more, not_over}
 
--- What an act finds: an engine that is alone and stands at the world, whose disk doesn't fail, and which keeps the maps of pins.
+-- What an act finds: an engine that is alone and stands at the world, whose disk doesn't fail meanwhile, and which keeps the maps
+-- of pins.
 pub record Stands (engine : Between) (seats after : List Seat) (world : World) : Type 0 where
   pub alone : engine.alone
   pub stands : StandsAt engine.old engine.map_before seats world
   pub sound : AreSound engine.old.page_size seats
-  pub quiet : engine.new.faults ≡ 0
+  pub quiet : Rose engine.old.faults engine.new.faults → ⊥
   pub maps : (pin : Pin) → Contains (pins_of after) pin → Contains (pins_of seats) pin → engine.map_after pin ≡ engine.map_before pin
+
+-- there are no logs, or else the act is of a session and met no limit
+abbrev pub IsSaid : Seen → Act → Told → Type 0
+IsSaid seen one told = (seen.logs ≡ None) ⊎ (IsOfSession one × HasNoLimit told)
 
 -- what an act leads to: the answer of the world, and an engine that stands at the world after it
 abbrev pub Leads : Between → List Seat → Told → Outcome → Type 0
@@ -169,7 +176,6 @@ begin_acts engine seats after world s told seat.Out run.Out b matches acts =
     let old : found.0 ≡ engine.old = found.1.nobody b.alone in
     let new : engine.new ≡ record engine.old { logs = with_reader engine.old.logs pin.lock } =
     found.2.2.nobody b.alone ∙ begins.after_is ∙ ap (λ (seen : Seen). record seen { logs = with_reader seen.logs pin.lock }) old in
-    let none : with_reader engine.old.logs pin.lock ≡ None = ap (λ (logs : Option LogState). with_reader logs pin.lock) tells.logs in
     let n : pin.n ≡ length world.history =
     begins.n ∙ ap (λ (seen : Seen). length seen.history) old ∙ ap length tells.history_is in
     let newest : get_or world.maps pin.n [] ≡ newest_map world = ap (λ (k : ℕ). get_or world.maps k []) n in
@@ -179,7 +185,7 @@ begin_acts engine seats after world s told seat.Out run.Out b matches acts =
     found.2.3 ∙ ap (λ (seen : Seen). seen.newest) old ∙ tells.newest ∙ ap Some (sym newest) in (
       acts.0,
       move engine seats after world (run.begin world s).world _ _ b acts.1.2
-          (tells_as engine.old engine.new world.maps world.history (with_reader engine.old.logs pin.lock) engine.old.faults new none tells.quiet tells)
+          (tells_as engine.old engine.new world.maps world.history (with_reader engine.old.logs pin.lock) engine.old.faults new tells)
           (extends_same world.maps) (
             record { snap = sym n; reads = refl; changed = refl; said = refl; wrote = refl },
             record { n = omega (arith, n, tells.count); size = size; map = map },
@@ -206,14 +212,13 @@ tells_quiet engine seats after world b found =
     let old : found.0 ≡ engine.old = found.1.nobody b.alone in
     let new : engine.new ≡ record engine.old { faults = engine.new.faults } =
     found.2.1 ∙ ap (λ (seen : Seen). record seen { faults = engine.new.faults }) old in
-    tells_as engine.old engine.new world.maps world.history engine.old.logs engine.new.faults new b.stands.tells.logs b.quiet b.stands.tells
+    tells_as engine.old engine.new world.maps world.history engine.old.logs engine.new.faults new b.stands.tells
 
 -- the disk doesn't fail
 never_fails : (engine : Between) (seats after : List Seat) (world : World) → Stands engine seats after world
     → Found engine.alone engine.free engine.old (λ mid. Fails mid engine.new) → ⊥
 never_fails engine seats after world b found =
-    let old : found.0 ≡ engine.old = found.1.nobody b.alone in
-    never_rose found.0.faults engine.new.faults (ap (λ (seen : Seen). seen.faults) old ∙ b.stands.tells.quiet) b.quiet found.2.0
+    b.quiet (subst (λ (mid : Seen). Rose mid.faults engine.new.faults) (found.1.nobody b.alone) found.2.0)
 
 -- READ of a page that the transaction wrote itself, or of its snapshot
 read_open : (engine : Between) (seats after : List Seat) (world : World) (s page : ℕ) (told : Told) (held : Transaction)
@@ -322,8 +327,7 @@ write_acts engine seats after world s page byte told (seat.Refused pin) (run.Ope
 tells_ended : (engine : Between) (seats after : List Seat) (world : World) (pin : Pin) → Stands engine seats after world
     → Ends engine.old pin engine.new → TellsOf engine.new world.maps world.history
 tells_ended engine seats after world pin b ends =
-    tells_as engine.old engine.new world.maps world.history (without_reader engine.old.logs pin.lock) engine.old.faults ends
-    (ap (λ (logs : Option LogState). without_reader logs pin.lock) b.stands.tells.logs) b.stands.tells.quiet b.stands.tells
+    tells_as engine.old engine.new world.maps world.history (without_reader engine.old.logs pin.lock) engine.old.faults ends b.stands.tells
 
 -- ROLLBACK
 rollback_acts : (engine : Between) (seats after : List Seat) (world : World) (s : ℕ) (told : Told) (state : State) (session : SessionState)
@@ -417,11 +421,6 @@ committed_acts engine seats after world s held transaction (At number) b is same
     ∙ ap (λ (n : ℕ). conflict Concurrent held.reads n world.history) same.snap
     ∙ ap (conflict Concurrent held.reads held.pin.n) (sym tells.history_is)
     ∙ conflict_none Concurrent held.reads held.pin.n engine.old.history accepts.clear.free in
-    let none : option_map (λ (logs : LogState). with_frames logs (written asked.change)) engine.old.logs ≡ None =
-    ap (option_map (λ (logs : LogState). with_frames logs (written asked.change))) tells.logs in
-    let done_logs : done.logs ≡ None = ap (λ (seen : Seen). seen.logs) accepts.after_is ∙ none in
-    let new_logs : engine.new.logs ≡ None =
-    ap (λ (seen : Seen). seen.logs) ends ∙ ap (λ (logs : Option LogState). without_reader logs held.pin.lock) done_logs in
     let told : TellsOf engine.new (world.maps ++ laid (newest_map world) asked.change ∷ []) (world.history ++ commit_of asked ∷ []) =
     tells_more engine.old engine.new world.maps world.history asked.change (commit_of asked) refl sound.images
     (ap (λ (seen : Seen). seen.history) ends ∙ ap (λ (seen : Seen). seen.history) accepts.after_is)
@@ -429,7 +428,7 @@ committed_acts engine seats after world s held transaction (At number) b is same
     (ap (λ (seen : Seen). seen.size) ends ∙ ap (λ (seen : Seen). seen.size) accepts.after_is)
     (ap (λ (seen : Seen). seen.page_size) ends ∙ ap (λ (seen : Seen). seen.page_size) accepts.after_is)
     (ap (λ (seen : Seen). seen.stopped) ends ∙ ap (λ (seen : Seen). seen.stopped) accepts.after_is)
-    b.quiet new_logs tells in
+    tells in
     let number_is : number ≡ length world.history + 1 =
     accepts.number_is ∙ ap (λ (commits : List Commit). length commits + 1) tells.history_is in
     subst (Leads engine after (reply.Done (At number))) (sym (commit_is world s transaction (same.wrote ∙ accepts.clear.wrote) free)) (
@@ -442,15 +441,15 @@ committed_acts engine seats after world s held transaction (At number) b is same
 
 -- COMMIT of an open transaction
 commit_open : (engine : Between) (seats after : List Seat) (world : World) (s : ℕ) (held : Transaction)
-    (transaction : run.Transaction) (told : Told) → Stands engine seats after world → state_of seats s ≡ seat.Open held
-    → IsTransaction held transaction → PinStands engine.map_before world.maps held.pin
+    (transaction : run.Transaction) (told : Told) → Stands engine seats after world → IsSaid engine.old (act.Commit s) told
+    → state_of seats s ≡ seat.Open held → IsTransaction held transaction → PinStands engine.map_before world.maps held.pin
     → CommitOpen engine s seats after held told → Leads engine after told (commit world s transaction)
-commit_open engine seats after world s held transaction (reply.Done receipt) b is same pin acts =
+commit_open engine seats after world s held transaction (reply.Done receipt) b said is same pin acts =
     let found = acts.0 in
     let accepts : Accepts engine.old (submitted_of seats s held) receipt found.2.0 =
     subst (λ (mid : Seen). Accepts mid (submitted_of seats s held) receipt found.2.0) (found.1.nobody b.alone) found.2.1 in
     committed_acts engine seats after world s held transaction receipt b is same pin found.2.0 accepts found.2.2 acts.1
-commit_open engine seats after world s held transaction (reply.Busy page number) b is same pin acts =
+commit_open engine seats after world s held transaction (reply.Busy page number) b said is same pin acts =
     let found = acts.0 in
     let tells = b.stands.tells in
     let refuses : Refuses engine.old (submitted_of seats s held) (fault.BusySnapshot page number) engine.new =
@@ -471,101 +470,116 @@ commit_open engine seats after world s held transaction (reply.Busy page number)
           )
           (λ other. refl) (λ other. refl),
     )
-commit_open engine seats after world s held transaction reply.Disk b is same pin acts =
+commit_open engine seats after world s held transaction reply.Disk b said is same pin acts =
     let found = acts.0 in
-    absurd (never_rose found.0.faults engine.new.faults
-    (ap (λ (seen : Seen). seen.faults) (found.1.nobody b.alone) ∙ b.stands.tells.quiet) b.quiet found.2.1)
-commit_open engine seats after world s held transaction (reply.Stopped log at) b is same pin acts =
+    absurd (b.quiet (subst (λ (mid : Seen). Rose mid.faults engine.new.faults) (found.1.nobody b.alone) found.2.1))
+commit_open engine seats after world s held transaction (reply.Stopped log at) b said is same pin acts =
     let found = acts.0 in
     let stop = found.2.1 in
     let none : found.0.stopped ≡ None = ap (λ (seen : Seen). seen.stopped) (found.1.nobody b.alone) ∙ b.stands.tells.running in
     let some : found.0.stopped ≡ Some stop.0 = stop.1 in
     absurd cc
-commit_open engine seats after world s held transaction (reply.Size pages) b is same pin acts =
+commit_open engine seats after world s held transaction (reply.Size pages) b said is same pin acts =
     let found = acts.0.1 in
     let sound : IsSoundTransaction engine.old.page_size held =
     subst (IsSoundState engine.old.page_size) is (sound_at engine.old.page_size seats s b.sound) in
     let refuses : Refuses engine.old (submitted_of seats s held) (fault.SizeLimit pages acts.0.0) engine.new =
     subst (λ (mid : Seen). Refuses mid (submitted_of seats s held) (fault.SizeLimit pages acts.0.0) engine.new) (found.1.nobody b.alone) found.2 in
-    absurd (not_over engine.old world.maps world.history (submitted_of seats s held).change b.stands.tells refl refl sound.images refuses.3)
-commit_open engine seats after world s held transaction reply.Ok b is same pin acts = absurd acts
-commit_open engine seats after world s held transaction (reply.Byte byte) b is same pin acts = absurd acts
-commit_open engine seats after world s held transaction reply.InTransaction b is same pin acts = absurd acts
-commit_open engine seats after world s held transaction reply.NoTransaction b is same pin acts = absurd acts
-commit_open engine seats after world s held transaction reply.MustRollBack b is same pin acts = absurd acts
-commit_open engine seats after world s held transaction (reply.Ckpt answer) b is same pin acts = absurd acts
-commit_open engine seats after world s held transaction (reply.Logs logs) b is same pin acts = absurd acts
+    elim said [
+      | inl none ↦
+          absurd (not_over engine.old world.maps world.history (submitted_of seats s held).change b.stands.tells none refl refl sound.images refuses.3)
+      | inr never ↦ absurd never.1
+    ]
+commit_open engine seats after world s held transaction reply.Ok b said is same pin acts = absurd acts
+commit_open engine seats after world s held transaction (reply.Byte byte) b said is same pin acts = absurd acts
+commit_open engine seats after world s held transaction reply.InTransaction b said is same pin acts = absurd acts
+commit_open engine seats after world s held transaction reply.NoTransaction b said is same pin acts = absurd acts
+commit_open engine seats after world s held transaction reply.MustRollBack b said is same pin acts = absurd acts
+commit_open engine seats after world s held transaction (reply.Ckpt answer) b said is same pin acts = absurd acts
+commit_open engine seats after world s held transaction (reply.Logs logs) b said is same pin acts = absurd acts
 
 -- COMMIT
 commit_acts : (engine : Between) (seats after : List Seat) (world : World) (s : ℕ) (told : Told) (state : State) (session : SessionState)
-    → Stands engine seats after world → state_of seats s ≡ state → Matches engine.map_before world.maps state session
-    → CommitActs engine s seats after told state → Leads engine after told (commit_step world s session)
-commit_acts engine seats after world s told seat.Out run.Out b is matches acts =
+    → Stands engine seats after world → IsSaid engine.old (act.Commit s) told → state_of seats s ≡ state
+    → Matches engine.map_before world.maps state session → CommitActs engine s seats after told state → Leads engine after told (commit_step world s session)
+commit_acts engine seats after world s told seat.Out run.Out b said is matches acts =
     rests engine seats after world reply.NoTransaction told b acts
-commit_acts engine seats after world s told (seat.Open held) (run.Open transaction) b is matches acts =
-    commit_open engine seats after world s held transaction told b is matches.0 matches.1 acts
-commit_acts engine seats after world s told (seat.Refused pin) (run.Refused transaction) b is matches acts =
+commit_acts engine seats after world s told (seat.Open held) (run.Open transaction) b said is matches acts =
+    commit_open engine seats after world s held transaction told b said is matches.0 matches.1 acts
+commit_acts engine seats after world s told (seat.Refused pin) (run.Refused transaction) b said is matches acts =
     rests engine seats after world reply.MustRollBack told b acts
-commit_acts engine seats after world s told seat.Out (run.Open transaction) b is matches acts = absurd matches
-commit_acts engine seats after world s told seat.Out (run.Refused transaction) b is matches acts = absurd matches
-commit_acts engine seats after world s told (seat.Open held) run.Out b is matches acts = absurd matches
-commit_acts engine seats after world s told (seat.Open held) (run.Refused transaction) b is matches acts = absurd matches
-commit_acts engine seats after world s told (seat.Refused pin) run.Out b is matches acts = absurd matches
-commit_acts engine seats after world s told (seat.Refused pin) (run.Open transaction) b is matches acts = absurd matches
+commit_acts engine seats after world s told seat.Out (run.Open transaction) b said is matches acts = absurd matches
+commit_acts engine seats after world s told seat.Out (run.Refused transaction) b said is matches acts = absurd matches
+commit_acts engine seats after world s told (seat.Open held) run.Out b said is matches acts = absurd matches
+commit_acts engine seats after world s told (seat.Open held) (run.Refused transaction) b said is matches acts = absurd matches
+commit_acts engine seats after world s told (seat.Refused pin) run.Out b said is matches acts = absurd matches
+commit_acts engine seats after world s told (seat.Refused pin) (run.Open transaction) b said is matches acts = absurd matches
 
 -- where there are no logs, a step of a checkpoint is idle and changes nothing
-idles : (old new : Seen) (answer : Ckpt) (maps : List PageMap) (history : List Commit) → TellsOf old maps history
-    → Checkpoints old answer new → new.faults ≡ 0 → (answer ≡ checkpoint.Idle) × TellsOf new maps history
-idles old new answer maps history tells checks quiet =
-    let there : (answer ≡ checkpoint.Idle) × (new.logs ≡ None) = rw tells.logs at checks.0 in
-    (there.0, tells_as old new maps history new.logs new.faults checks.2 there.1 quiet tells)
+idles : (old new : Seen) (answer : Ckpt) (maps : List PageMap) (history : List Commit) → TellsOf old maps history → old.logs ≡ None
+    → Checkpoints old answer new → (answer ≡ checkpoint.Idle) × TellsOf new maps history
+idles old new answer maps history tells none checks =
+    let there : (answer ≡ checkpoint.Idle) × (new.logs ≡ None) = rw none at checks.0 in
+    (there.0, tells_as old new maps history new.logs new.faults checks.2 tells)
 
 -- one step of a checkpoint, at once
 step_acts : (engine : Between) (seats after : List Seat) (world : World) (told : Told) → Stands engine seats after world
-    → after ≡ seats → StepActs engine told → Leads engine after told (run.same world (reply.Ckpt checkpoint.Idle))
-step_acts engine seats after world told b same acts = elim acts [
+    → engine.old.logs ≡ None → after ≡ seats → StepActs engine told → Leads engine after told (run.same world (reply.Ckpt checkpoint.Idle))
+step_acts engine seats after world told b none same acts = elim acts [
   | inl fails ↦ absurd (never_fails engine seats after world b fails.1)
   | inr answers ↦
       (let checks : Checkpoints engine.old answers.0 engine.new =
       subst (λ (mid : Seen). Checkpoints mid answers.0 engine.new) (answers.2.1.nobody b.alone) answers.2.2 in
-      let idle = idles engine.old engine.new answers.0 world.maps world.history b.stands.tells checks b.quiet in
+      let idle = idles engine.old engine.new answers.0 world.maps world.history b.stands.tells none checks in
       (answers.1 ∙ ap reply.Ckpt idle.0, stay engine seats after world b same idle.1))
 ]
 
 -- steps of a checkpoint until one copies no page: the first is idle
 copy_acts : (engine : Between) (seats after : List Seat) (world : World) (told : Told) (answers : List Ckpt) → Stands engine seats after world
-    → after ≡ seats → Copies engine.alone engine.free answers engine.old told engine.new
+    → engine.old.logs ≡ None → after ≡ seats → Copies engine.alone engine.free answers engine.old told engine.new
     → Leads engine after told (run.same world (reply.Ckpt checkpoint.Idle))
-copy_acts engine seats after world told [] b same copies = elim copies [
+copy_acts engine seats after world told [] b none same copies = elim copies [
   | inl fails ↦ absurd (never_fails engine seats after world b fails.1)
-  | inr answers ↦ step_acts engine seats after world told b same (inr (answers.0, answers.2, answers.3))
+  | inr answers ↦ step_acts engine seats after world told b none same (inr (answers.0, answers.2, answers.3))
 ]
-copy_acts engine seats after world told (answer ∷ answers) b same copies =
+copy_acts engine seats after world told (answer ∷ answers) b none same copies =
     let checks : Checkpoints engine.old answer copies.0 =
     subst (λ (mid : Seen). Checkpoints mid answer copies.0) (copies.3.1.nobody b.alone) copies.3.2 in
-    let idle : answer ≡ checkpoint.Idle = (rw b.stands.tells.logs at checks.0).0 in
+    let idle : answer ≡ checkpoint.Idle = (rw none at checks.0).0 in
     let copied : answer ≡ checkpoint.Copied copies.1 = copies.2 in
     absurd cc
 
--- An act over an engine that is alone, keeps no logs and stands at a world is answered as the world is, and then the engine stands
--- at the world after it.
-pub acts_stand : (engine : Between) (seats after : List Seat) (world : World) (one : Act) (told : Told) → Stands engine seats after world
-    → Acts engine seats one told after → Leads engine after told (step world one)
-acts_stand engine seats after world (act.Begin s) told b acts =
-    begin_acts engine seats after world s told (state_of seats s) (world.sessions s) b (b.stands.sessions s) acts
-acts_stand engine seats after world (act.Read s page) told b acts =
-    read_acts engine seats after world s page told (state_of seats s) (world.sessions s) b refl (b.stands.sessions s) acts
-acts_stand engine seats after world (act.Write s page byte) told b acts =
-    write_acts engine seats after world s page byte told (state_of seats s) (world.sessions s) b refl (b.stands.sessions s) acts
-acts_stand engine seats after world (act.Commit s) told b acts =
-    commit_acts engine seats after world s told (state_of seats s) (world.sessions s) b refl (b.stands.sessions s) acts
-acts_stand engine seats after world (act.Rollback s) told b acts =
-    rollback_acts engine seats after world s told (state_of seats s) (world.sessions s) b (b.stands.sessions s) acts
-acts_stand engine seats after world act.Copy told b acts = copy_acts engine seats after world told acts.0.0 b acts.1 acts.0.1
-acts_stand engine seats after world act.Step told b acts = step_acts engine seats after world told b acts.1 acts.0
-acts_stand engine seats after world act.Logs told b acts =
-    let old : acts.1.0 ≡ engine.old = acts.1.1.nobody b.alone in
-    let none : acts.1.0.logs ≡ None = ap (λ (seen : Seen). seen.logs) old ∙ b.stands.tells.logs in (
-      acts.1.2.0 ∙ ap (λ (logs : Option LogState). reply.Logs (told_logs logs)) none,
+-- a look at no logs
+logs_acts : (engine : Between) (seats after : List Seat) (world : World) (told : Told) → Stands engine seats after world
+    → engine.old.logs ≡ None → Acts engine seats act.Logs told after → Leads engine after told (step world act.Logs)
+logs_acts engine seats after world told b none acts =
+    let old : acts.1.0 ≡ engine.old = acts.1.1.nobody b.alone in (
+      acts.1.2.0 ∙ ap (λ (seen : Seen). reply.Logs (told_logs seen.logs)) old
+          ∙ ap (λ (logs : Option LogState). reply.Logs (told_logs logs)) none,
       stay engine seats after world b acts.0 (tells_same engine seats after world b (acts.1.2.1 ∙ old)),
     )
+
+-- where an act may look after the logs, there are none
+no_logs : (seen : Seen) (one : Act) (told : Told) → (IsOfSession one → ⊥) → IsSaid seen one told → seen.logs ≡ None
+no_logs seen one told never said = elim said [ inl none ↦ none | inr other ↦ absurd (never other.0) ]
+
+-- An act over an engine that is alone and stands at a world is answered as the world is, and then the engine stands at the world
+-- after it.
+pub acts_stand : (engine : Between) (seats after : List Seat) (world : World) (one : Act) (told : Told) → Stands engine seats after world
+    → IsSaid engine.old one told → Acts engine seats one told after → Leads engine after told (step world one)
+acts_stand engine seats after world (act.Begin s) told b said acts =
+    begin_acts engine seats after world s told (state_of seats s) (world.sessions s) b (b.stands.sessions s) acts
+acts_stand engine seats after world (act.Read s page) told b said acts =
+    read_acts engine seats after world s page told (state_of seats s) (world.sessions s) b refl (b.stands.sessions s) acts
+acts_stand engine seats after world (act.Write s page byte) told b said acts =
+    write_acts engine seats after world s page byte told (state_of seats s) (world.sessions s) b refl (b.stands.sessions s) acts
+acts_stand engine seats after world (act.Commit s) told b said acts =
+    commit_acts engine seats after world s told (state_of seats s) (world.sessions s) b said refl (b.stands.sessions s) acts
+acts_stand engine seats after world (act.Rollback s) told b said acts =
+    rollback_acts engine seats after world s told (state_of seats s) (world.sessions s) b (b.stands.sessions s) acts
+acts_stand engine seats after world act.Copy told b said acts =
+    copy_acts engine seats after world told acts.0.0 b (no_logs engine.old act.Copy told (λ never. never) said) acts.1 acts.0.1
+acts_stand engine seats after world act.Step told b said acts =
+    step_acts engine seats after world told b (no_logs engine.old act.Step told (λ never. never) said) acts.1 acts.0
+acts_stand engine seats after world act.Logs told b said acts =
+    logs_acts engine seats after world told b (no_logs engine.old act.Logs told (λ never. never) said) acts
