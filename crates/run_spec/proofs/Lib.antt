@@ -5,3 +5,4 @@ pub mod Transactions
 pub mod GoodLines
 pub mod Alone
 pub mod SerialLaw
+pub mod AlikeLaw

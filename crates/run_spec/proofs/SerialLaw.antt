@@ -165,7 +165,7 @@ agree_since s first world whole n within numbers none =
     subst (λ (one : Commit). counts Concurrent q one ≡ false) is left))
 
 -- the change of a transaction of page lines leads from a page store to a page store
-laid_is_store : (s : ℕ) (world : World) (transaction : Transaction) (pages : PageMap) → AreImages s transaction.changed
+pub laid_is_store : (s : ℕ) (world : World) (transaction : Transaction) (pages : PageMap) → AreImages s transaction.changed
     → IsStore s pages → IsStore s (laid pages (change_of world transaction))
 laid_is_store s world transaction pages images sound =
     let change = change_of world transaction in
@@ -273,7 +273,7 @@ read_keeps s first world session page (Open transaction) low high held whole = r
 read_keeps s first world session page (Refused transaction) low high held whole = whole
 
 -- the newest map is a page store
-newest_store : (s : ℕ) (first : PageMap) (world : World) → IsWorld s first world → IsStore s (newest_map world)
+pub newest_store : (s : ℕ) (first : PageMap) (world : World) → IsWorld s first world → IsStore s (newest_map world)
 newest_store s first world whole = whole.stores (length world.history) [] (omega (arith, whole.maps_count))
 
 -- WRITE
