@@ -4,4 +4,7 @@ pub mod Laying
 pub mod Transactions
 pub mod GoodLines
 pub mod Alone
+pub mod OneMore
+pub mod Ordinals
 pub mod SerialLaw
+pub mod AlikeLaw
