@@ -9,3 +9,5 @@ pub mod Copying
 pub mod Growth
 pub mod Endings
 pub mod Runs
+pub mod Soundness
+pub mod Answered

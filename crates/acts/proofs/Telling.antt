@@ -20,8 +20,8 @@ use Rattle.run_spec.specs.declared.commits.Commit.{Commit}
 use Rattle.run_spec.specs.Logs.{LogState}
 use Rattle.run_spec.specs.PageLines.{AreImages, IsPageStore}
 use Rattle.run_spec.specs.Seen.{Seen, IsOver, pages_after, frames_after}
-use Rattle.run_spec.proofs.Laying.{IsWhole, laid-page_size}
-use Rattle.run_spec.proofs.GoodLines.{legal_size, laid-store}
+use Rattle.run_spec.proofs.Laying.{laid-page_size}
+use Rattle.run_spec.proofs.GoodLines.{legal_size, lines_whole, laid-store}
 use Rattle.acts.specs.InMemory.{TellsOf, PinStands}
 
 -- where nothing but the logs and the faults changed, all stays
@@ -71,15 +71,7 @@ newest_pushed maps pages history commit count =
     let at : length (history ++ commit ∷ []) ≡ length maps = omega (arith, length-append history (commit ∷ [])) in
     ap (λ (k : ℕ). get_or (maps ++ pages ∷ []) k []) at ∙ get_or-append_seam maps pages [] []
 
--- the change of a transaction of page lines is one of whole pages of the store
-lines_whole : (change : Change) (s : ℕ) → AreImages s change.changed → change.fresh ≡ [] → IsWhole 16 s change
-lines_whole change s images none = record {
-  in_range = λ k d within. (let one = images.in_range k d within in (omega arith, one.1));
-  whole = images.whole;
-  fresh = none;
-}
-
--- laying such a change keeps the page size of a page store
+-- laying a change of page lines keeps the page size of a page store
 laid_size : (pages : PageMap) (change : Change) → change.fresh ≡ [] → AreImages (page_size_of pages) change.changed → IsPageStore pages
     → page_size_of (laid pages change) ≡ page_size_of pages
 laid_size pages change none images store =
