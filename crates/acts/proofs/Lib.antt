@@ -1,6 +1,9 @@
 pub mod SeatLaws
 pub mod Telling
 pub mod Standing
+pub mod StandingStatements
+pub mod StandingCommits
+pub mod StandingActs
 pub mod Memory
 pub mod Places
 pub mod Outcomes

@@ -1,5 +1,5 @@
 -- The store in memory: its start, and its acts.
-use Rattle.std.proofs.Common.{◌≡◌, ◌∙◌, ℕ, ◌+◌, ◌≤◌, List, [], ◌∷◌, ◌++◌, length, refl, sym, ap, subst, inl, arith, append-nil}
+use Rattle.std.proofs.Common.{◌≡◌, ◌∙◌, ℕ, ◌≤◌, List, [], ◌∷◌, ◌++◌, length, refl, sym, ap, subst, inl, arith, append-nil}
 use Rattle.std.specs.Prelude.{Some, Contains, slice_get}
 use Rattle.page_spec.specs.PageMap.{PageMap, page_size_of}
 use Rattle.run_spec.specs.declared.pins.Pin.{Pin}
@@ -13,7 +13,8 @@ use Rattle.acts.specs.Pagers.{Between, Acts, AreSound, pins_of}
 use Rattle.memory_engine.specs.Plain.{PlainState, IsPlain, PlainLive, newest_of, plain_seen}
 use Rattle.acts.specs.InMemory.{Memory, IsAt}
 use Rattle.acts.proofs.Telling.{never_rose}
-use Rattle.acts.proofs.Standing.{Stands, acts_stand, stay, tells_quiet}
+use Rattle.acts.proofs.Standing.{Stands, stay, tells_quiet}
+use Rattle.acts.proofs.StandingActs.{acts_stand}
 
 -- the engine in memory before and after something
 abbrev pub plain_between : PlainState → PlainState → Between

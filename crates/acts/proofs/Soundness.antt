@@ -1,7 +1,7 @@
 -- Each act keeps the sessions' transactions sound.
-use Rattle.std.proofs.Common.{◌≡◌, ℕ, ◌+◌, ◌≤◌, List, [], ◌∷◌, Option, Some, None, refl, sym, subst, ap, inl, inr, arith, eq-eqb}
+use Rattle.std.proofs.Common.{◌≡◌, ℕ, ◌≤◌, List, [], ◌∷◌, Option, Some, None, refl, sym, subst, inl, inr, arith, eq-eqb}
 use Rattle.std.proofs.lemmas.Bool.{cases_eq, ne_eqb}
-use Rattle.std.proofs.lemmas.List.Elements.{All-nil, All-cons, All-head, All-tail}
+use Rattle.std.proofs.lemmas.List.Elements.{All-cons, All-head, All-tail}
 use Rattle.run_spec.specs.declared.pins.Pin.{Pin}
 use Rattle.run_spec.specs.declared.lines.Act.{Act}
 use Rattle.run_spec.specs.declared.lines.Act.TheVariants as act
@@ -13,7 +13,6 @@ use Rattle.run_spec.proofs.Transactions.{none_are, fills_none}
 use Rattle.acts.specs.declared.seats.Seat.{Seat}
 use Rattle.acts.specs.declared.seats.State.{State}
 use Rattle.acts.specs.declared.seats.State.TheVariants.{Out, Open, Refused}
-use Rattle.acts.specs.declared.seats.Transaction.{Transaction}
 use Rattle.acts.specs.Pagers.{Between, Acts, BeginActs, ReadActs, ReadOpen, WriteActs, CommitActs, CommitOpen, RollbackActs, AreSound, IsSoundState, IsSoundTransaction, state_of, begun_of, with_seat, with_state, new_transaction, after_own, after_fetch}
 use Rattle.acts.proofs.SeatLaws.{sound_at}
 use Rattle.acts.proofs.Outcomes.{sound_own, sound_fetch, after_write_sound}

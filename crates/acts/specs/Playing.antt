@@ -1,5 +1,5 @@
 -- What a run of page lines is answered over any engine that nobody else commits to: what the run over whole page maps is answered.
-use Rattle.std.specs.Prelude.{◌≡◌, ℕ, ◌+◌, List, length, Option, Some, None, All}
+use Rattle.std.specs.Prelude.{◌≡◌, ℕ, ◌+◌, List, length, Some, None, All}
 use Rattle.page_spec.specs.PageMap.{PageMap, page_size_of}
 use Rattle.run_spec.specs.declared.lines.Act.{Act}
 use Rattle.run_spec.specs.declared.lines.Act.TheVariants as act

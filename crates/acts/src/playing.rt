@@ -17,6 +17,9 @@ use std::alloc::{AllocError, Global};
 /// Plays acts one after another, by sessions that haven't acted yet, and then rolls back what is still open. It needs an engine on
 /// which a transaction may always begin, and whose maps have 16 pages. The error is want of memory: the acts before it were done,
 /// and what they left open is rolled back too.
+///
+/// Engines that begin with the same commits and the same pages 2 to 16 give the same answers, as long as nobody else commits and no
+/// disk fails. An engine that keeps logs may answer otherwise where a limit of the log is met, or where an act looks after the logs.
 pub fn play<E: Engine<Raw>>(
     alloc: Global,
     engine: &mut E,
@@ -30,8 +33,8 @@ pub fn play<E: Engine<Raw>>(
     ensures plays { IfOk result (λ told. Plays (E.alone engine.old) (E.free engine.old) (E.seen engine.old) (E.map_at engine.old) [] acts.now
         told.items (E.seen engine.new)) }
 
-    // Nobody else commits, and no fault was counted: then the answers are those of the run over whole page maps. Where the engine
-    // keeps logs, that is said of acts of sessions alone, and as long as no limit is met.
+    // Where nobody else commits and no fault was counted, the answers are those of the run over whole page maps. Where the engine
+    // keeps logs, that is said of acts of sessions alone, as long as no limit is met.
     ensures answers { E.alone engine.old → (world : World) → RestsAt (E.seen engine.old) world
         → (Rose (E.seen engine.old).faults (E.seen engine.new).faults → ⊥)
         → IfOk result (λ told. IsWithoutLogs (E.seen engine.old) ⊎ (AreSessions acts.now × HaveNoLimit told.items)

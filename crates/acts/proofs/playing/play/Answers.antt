@@ -1,4 +1,4 @@
-use Rattle.std.proofs.Common.{[], ◌∙◌, List}
+use Rattle.std.proofs.Common.{[], ◌∙◌}
 use Rattle.std.proofs.lemmas.Result.{IfOk-weaker}
 use Rattle.std.proofs.lemmas.List.Elements.{Contains-append_right}
 use Rattle.acts.specs.Pagers.{pins_of}
