@@ -25,7 +25,7 @@ lines_whole change s images none = record {
 }
 
 -- and leaves page 1
-first_absent : (images : List PageImage) (s : ℕ) → AreImages s images → image_of images 1 ≡ None
+pub first_absent : (images : List PageImage) (s : ℕ) → AreImages s images → image_of images 1 ≡ None
 first_absent images s are = image_absent images 1 (λ k d within is. (let one = are.in_range k d within in omega arith))
 
 -- laying it gives a page store

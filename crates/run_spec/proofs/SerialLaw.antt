@@ -4,10 +4,9 @@ use Rattle.std.proofs.Common.{◌≡◌, ℕ, ◌+◌, ◌-◌, ◌<◌, ◌≤�
 use Rattle.std.specs.Prelude.{Contains, All, slice_get, slice_index}
 use Rattle.std.specs.List.{list_any, slice_index_or}
 use Rattle.std.proofs.lemmas.Bool.{or_parts, cases_lt}
-use Rattle.std.proofs.lemmas.Option.{slice_get-get_or, get_or_from_slice_get, slice_get_cases}
+use Rattle.std.proofs.lemmas.Option.{slice_get-get_or, get_or_from_slice_get, slice_get_within}
 use Rattle.std.proofs.lemmas.List.{get_or_append_left, get_or-drop, length-replicate}
 use Rattle.std.proofs.lemmas.List.Elements.{All-append, All-cons, All-head, All-tail, All-nil, All-replicate}
-use Rattle.std.proofs.Math.Seq.{get_or-append_seam}
 use Rattle.page_spec.specs.PageMap.{PageMap, page_at, page_size_of, page_sizes, Agree}
 use Rattle.run_spec.specs.declared.commits.Commit.{Commit}
 use Rattle.run_spec.specs.declared.commits.Mode.{Mode}
@@ -21,9 +20,12 @@ use Rattle.run_spec.specs.PageLines.{AreImages}
 use Rattle.run_spec.specs.Change.{laid}
 use Rattle.run_spec.specs.History.{counts, is_written, conflict, NoConflict}
 use Rattle.run_spec.specs.Seen.{commit_of}
-use Rattle.run_spec.specs.World.{World, SessionState, Out, Open, Refused, Transaction, changed_at, map_number, newest_map, change_of, submitted, moved, committed, decided, commit, begin_step, read_step, write_step, commit_step, rollback_step, step, after, world_over, zeros, start}
-use Rattle.run_spec.specs.Serial.{IsSerialCommit, SeesSnapshot, IsSerial, IsSerialFrom, IsInRange, AreInRange}
+use Rattle.run_spec.specs.World.{World, SessionState, Out, Open, Refused, Transaction, changed_at, map_number, newest_map, change_of, submitted, shown, moved, committed, decided, commit, begin_step, read_step, write_step, commit_step, rollback_step, step, after, world_over, zeros, start}
+use Rattle.run_spec.specs.Range.{IsInRange, AreInRange}
+use Rattle.run_spec.specs.Serial.{IsSerialCommit, SeesSnapshot, IsSerial, IsSerialFrom}
 use Rattle.run_spec.proofs.Conflicts.{no_conflict}
+use Rattle.run_spec.proofs.OneMore.{found_at, front_of, last_of, first_stays}
+use Rattle.run_spec.proofs.Ordinals.{ArePast, AreOrdinals, ordinals_moved, ordinals_begun, ordinals_committed, ordinals_none}
 use Rattle.run_spec.proofs.Laying.{laid-put, laid-page_size, put_pages-at, agree_refl, agree_trans, agree_laid}
 use Rattle.run_spec.proofs.GoodLines.{legal_size, lines_whole, laid-store}
 use Rattle.run_spec.proofs.Alone.{IsStore, IsTied, page-long, tied_none, tied_read, tied_write}
@@ -43,7 +45,7 @@ IsHeld s maps (Refused transaction) =
     (transaction.snap < length maps) × IsTied s (slice_index_or maps transaction.snap []) transaction
 
 -- What each world of page lines over this first map keeps: one map more than commits, answers for each commit, all maps page stores with pages of s
--- bytes, each commit leading from one map to the next, and each transaction tied to its snapshot.
+-- bytes, each commit leading from one map to the next, each transaction tied to its snapshot, and ordinals that rise.
 pub record IsWorld (s : ℕ) (first : PageMap) (world : World) : Type 0 where
   pub begins : slice_get world.maps 0 ≡ Some first
   pub maps_count : length world.maps ≡ length world.history + 1
@@ -53,36 +55,7 @@ pub record IsWorld (s : ℕ) (first : PageMap) (world : World) : Type 0 where
       → slice_get world.maps k ≡ Some old → slice_get world.history k ≡ Some commit → slice_get world.answers k ≡ Some answers
       → slice_get world.maps (k + 1) ≡ Some new → Follows k old commit answers new
   pub held : (session : ℕ) → IsHeld s world.maps (world.sessions session)
-
--- what stands inside a list is found
-found_at : {X : Type 0} (xs : List X) (k : ℕ) → k < length xs → (x : X) × (slice_get xs k ≡ Some x)
-found_at xs k within =
-    elim ((slice_get_cases xs k).1) [ inl here ↦ (here.0, here.2) | inr past ↦ absurd (let bound = past.0 in omega arith) ]
-
--- an element of a list with one more that is not the last
-front_of : {X : Type 0} (xs : List X) (x : X) (k : ℕ) (y : X) → k < length xs → slice_get (xs ++ x ∷ []) k ≡ Some y
-    → slice_get xs k ≡ Some y
-front_of xs x k y within found =
-    slice_get-get_or xs k y within
-    ∙ ap Some (sym (get_or_append_left xs (x ∷ []) y k within) ∙ get_or_from_slice_get (xs ++ x ∷ []) k y y found)
-
--- and the last
-last_of : {X : Type 0} (xs : List X) (x : X) (k : ℕ) (y : X) → k ≡ length xs → slice_get (xs ++ x ∷ []) k ≡ Some y → y ≡ x
-last_of xs x k y last found =
-    sym (get_or_from_slice_get (xs ++ x ∷ []) k y y found)
-    ∙ (ap (λ (m : ℕ). get_or (xs ++ x ∷ []) m y) last ∙ get_or-append_seam xs x [] y)
-
--- an element that is found stands inside the list
-inside : {X : Type 0} (xs : List X) (i : ℕ) (x : X) → slice_get xs i ≡ Some x → i < length xs
-inside xs i x found =
-    elim ((slice_get_cases xs i).1) [ inl here ↦ here.1 | inr past ↦ absurd (let e : Some x ≡ None = sym found ∙ past.1 in cc) ]
-
--- the first of a list with one more stays the first
-first_stays : {X : Type 0} (xs : List X) (x first : X) → slice_get xs 0 ≡ Some first → slice_get (xs ++ x ∷ []) 0 ≡ Some first
-first_stays xs x first found =
-    let within : 0 < length xs = inside xs 0 first found in
-    slice_get-get_or (xs ++ x ∷ []) 0 first (omega (arith, length-append xs (x ∷ [])))
-    ∙ ap Some (get_or_append_left xs (x ∷ []) first 0 within ∙ get_or_from_slice_get xs 0 first first found)
+  pub ordinals : AreOrdinals world.history world.begun world.sessions
 
 -- what holds of each commit with its maps and answers holds with one commit more, if it holds of that
 pushed : (P : ℕ → PageMap → Commit → List Told → PageMap → Type 0) (maps : List PageMap) (history : List Commit)
@@ -100,7 +73,7 @@ pushed P maps history told next commit answers more same all here k old new one 
           all k old new one said (front_of maps next k old (omega arith) is_old) (front_of history commit k one low is_one)
           (front_of told answers k said (omega arith) is_said) (front_of maps next (k + 1) new (omega arith) is_new)
       | inr high ↦
-          (let bound : k < length (history ++ commit ∷ []) = inside (history ++ commit ∷ []) k one is_one in
+          (let bound : k < length (history ++ commit ∷ []) = slice_get_within (history ++ commit ∷ []) k one is_one in
           let last : k ≡ length history = omega (arith, length-append history (commit ∷ [])) in
           let first : old ≡ get_or maps (length history) [] =
           sym (get_or_from_slice_get maps k old [] (front_of maps next k old (omega arith) is_old))
@@ -164,7 +137,7 @@ agree_since s first world whole n within numbers none =
     subst (λ (one : Commit). counts Concurrent q one ≡ false) is left))
 
 -- the change of a transaction of page lines leads from a page store to a page store
-laid_is_store : (s : ℕ) (world : World) (transaction : Transaction) (pages : PageMap) → AreImages s transaction.changed
+pub laid_is_store : (s : ℕ) (world : World) (transaction : Transaction) (pages : PageMap) → AreImages s transaction.changed
     → IsStore s pages → IsStore s (laid pages (change_of world transaction))
 laid_is_store s world transaction pages images sound =
     let change = change_of world transaction in
@@ -231,14 +204,16 @@ held_changed s maps sessions session state here others other = by_test (eqb othe
 
 -- a world in which a session's state changed
 moved_keeps : (s : ℕ) (first : PageMap) (world : World) (session : ℕ) (state : SessionState) (answer : Told) → IsHeld s world.maps state
-    → IsWorld s first world → IsWorld s first (moved world session state answer).world
-moved_keeps s first world session state answer here whole = record {
+    → ArePast world.history session (world.begun session) state → IsWorld s first world
+    → IsWorld s first (moved world session state answer).world
+moved_keeps s first world session state answer here past whole = record {
   begins = whole.begins;
   maps_count = whole.maps_count;
   answers_count = whole.answers_count;
   stores = whole.stores;
   follows = whole.follows;
   held = held_changed s world.maps world.sessions session state here whole.held;
+  ordinals = ordinals_moved world.history world.begun world.sessions session state past whole.ordinals;
 }
 
 -- BEGIN
@@ -253,51 +228,45 @@ begin_keeps s first world session Out whole = record {
   held = held_changed s world.maps world.sessions session
       (Open (record { snap = length world.history; reads = []; changed = []; said = []; answers = []; wrote = false }))
       (omega (arith, whole.maps_count), tied_none s (length world.history) (newest_map world)) whole.held;
+  ordinals = ordinals_begun world.history world.begun world.sessions session
+      (record { snap = length world.history; reads = []; changed = []; said = []; answers = []; wrote = false }) whole.ordinals;
 }
 begin_keeps s first world session (Open transaction) whole = whole
 begin_keeps s first world session (Refused transaction) whole = whole
 
 -- READ
 read_keeps : (s : ℕ) (first : PageMap) (world : World) (session page : ℕ) (state : SessionState) → 2 ≤ page → page ≤ 16
-    → IsHeld s world.maps state → IsWorld s first world → IsWorld s first (read_step world session page state).world
-read_keeps s first world session page Out low high held whole = whole
-read_keeps s first world session page (Open transaction) low high held whole = record {
-  begins = whole.begins;
-  maps_count = whole.maps_count;
-  answers_count = whole.answers_count;
-  stores = whole.stores;
-  follows = whole.follows;
-  held = held_changed s world.maps world.sessions session _ (held.0, tied_read s world transaction page low high held.1) whole.held;
-}
-read_keeps s first world session page (Refused transaction) low high held whole = whole
+    → IsHeld s world.maps state → ArePast world.history session (world.begun session) state → IsWorld s first world
+    → IsWorld s first (read_step world session page state).world
+read_keeps s first world session page Out low high held past whole = whole
+read_keeps s first world session page (Open transaction) low high held past whole =
+    moved_keeps s first world session _ (told.Byte (slice_index (shown world transaction page) 0))
+    (held.0, tied_read s world transaction page low high held.1) past whole
+read_keeps s first world session page (Refused transaction) low high held past whole = whole
 
 -- the newest map is a page store
-newest_store : (s : ℕ) (first : PageMap) (world : World) → IsWorld s first world → IsStore s (newest_map world)
+pub newest_store : (s : ℕ) (first : PageMap) (world : World) → IsWorld s first world → IsStore s (newest_map world)
 newest_store s first world whole = whole.stores (length world.history) [] (omega (arith, whole.maps_count))
 
 -- WRITE
 write_keeps : (s : ℕ) (first : PageMap) (world : World) (session page byte : ℕ) (state : SessionState) → 2 ≤ page → page ≤ 16
-    → IsHeld s world.maps state → IsWorld s first world → IsWorld s first (write_step world session page byte state).world
-write_keeps s first world session page byte Out low high held whole = whole
-write_keeps s first world session page byte (Open transaction) low high held whole = record {
-  begins = whole.begins;
-  maps_count = whole.maps_count;
-  answers_count = whole.answers_count;
-  stores = whole.stores;
-  follows = whole.follows;
-  held = held_changed s world.maps world.sessions session _ (
-    held.0,
-    tied_write s (page_size_of (newest_map world)) (map_number world transaction.snap) transaction page byte low high
-        (newest_store s first world whole).size held.1,
-  ) whole.held;
-}
-write_keeps s first world session page byte (Refused transaction) low high held whole = whole
+    → IsHeld s world.maps state → ArePast world.history session (world.begun session) state → IsWorld s first world
+    → IsWorld s first (write_step world session page byte state).world
+write_keeps s first world session page byte Out low high held past whole = whole
+write_keeps s first world session page byte (Open transaction) low high held past whole =
+    moved_keeps s first world session _ told.Ok (
+      held.0,
+      tied_write s (page_size_of (newest_map world)) (map_number world transaction.snap) transaction page byte low high
+          (newest_store s first world whole).size held.1,
+    ) past whole
+write_keeps s first world session page byte (Refused transaction) low high held past whole = whole
 
 -- COMMIT that nothing bars
 committed_keeps : (s : ℕ) (first : PageMap) (world : World) (session : ℕ) (transaction : Transaction) → IsHeld s world.maps (Open transaction)
+    → ArePast world.history session (world.begun session) (Open transaction)
     → NoConflict Concurrent transaction.reads transaction.snap world.history → IsWorld s first world
     → IsWorld s first (committed world session transaction).world
-committed_keeps s first world session transaction held free whole =
+committed_keeps s first world session transaction held past free whole =
     let within : transaction.snap ≤ length world.history = omega (arith, held.0, whole.maps_count) in
     let newest = newest_map world in
     let next = laid newest (change_of world transaction) in
@@ -319,54 +288,52 @@ committed_keeps s first world session transaction held free whole =
           whole.answers_count whole.follows (follows_newest s world session transaction newest sound within held.1 agree);
       held = held_changed s (world.maps ++ next ∷ []) world.sessions session Out tt
           (λ other. held_more s world.maps next (world.sessions other) (whole.held other));
+      ordinals = ordinals_committed world.history world.begun world.sessions one transaction refl past whole.ordinals;
     }
 
 -- COMMIT of a transaction that wrote
 decided_keeps : (s : ℕ) (first : PageMap) (world : World) (session : ℕ) (transaction : Transaction) (found : Option (ℕ × ℕ))
     → conflict Concurrent transaction.reads transaction.snap world.history ≡ found → IsHeld s world.maps (Open transaction)
-    → IsWorld s first world → IsWorld s first (decided world session transaction found).world
-decided_keeps s first world session transaction None is held whole =
-    committed_keeps s first world session transaction held
+    → ArePast world.history session (world.begun session) (Open transaction) → IsWorld s first world
+    → IsWorld s first (decided world session transaction found).world
+decided_keeps s first world session transaction None is held past whole =
+    committed_keeps s first world session transaction held past
     (no_conflict Concurrent transaction.reads transaction.snap world.history is) whole
-decided_keeps s first world session transaction (Some found) is held whole = record {
-  begins = whole.begins;
-  maps_count = whole.maps_count;
-  answers_count = whole.answers_count;
-  stores = whole.stores;
-  follows = whole.follows;
-  held = held_changed s world.maps world.sessions session (Refused transaction) held whole.held;
-}
+decided_keeps s first world session transaction (Some found) is held past whole =
+    moved_keeps s first world session (Refused transaction) (told.Busy found.0 found.1) held past whole
 
 -- COMMIT
-commit_keeps : (s : ℕ) (first : PageMap) (world : World) (session : ℕ) (state : SessionState) → IsHeld s world.maps state → IsWorld s first world
+commit_keeps : (s : ℕ) (first : PageMap) (world : World) (session : ℕ) (state : SessionState) → IsHeld s world.maps state
+    → ArePast world.history session (world.begun session) state → IsWorld s first world
     → IsWorld s first (commit_step world session state).world
-commit_keeps s first world session Out held whole = whole
-commit_keeps s first world session (Open transaction) held whole = by_wrote transaction.wrote
+commit_keeps s first world session Out held past whole = whole
+commit_keeps s first world session (Open transaction) held past whole = by_wrote transaction.wrote
   where
     by_wrote : (wrote : Bool) → IsWorld s first (cond wrote
         (decided world session transaction (conflict Concurrent transaction.reads transaction.snap world.history))
         (moved world session Out (told.Done (ReadOnly transaction.snap)))).world
     by_wrote true =
-        decided_keeps s first world session transaction (conflict Concurrent transaction.reads transaction.snap world.history) refl held whole
-    by_wrote false = moved_keeps s first world session Out (told.Done (ReadOnly transaction.snap)) tt whole
-commit_keeps s first world session (Refused transaction) held whole = whole
+        decided_keeps s first world session transaction (conflict Concurrent transaction.reads transaction.snap world.history) refl held
+        past whole
+    by_wrote false = moved_keeps s first world session Out (told.Done (ReadOnly transaction.snap)) tt tt whole
+commit_keeps s first world session (Refused transaction) held past whole = whole
 
 -- ROLLBACK
 rollback_keeps : (s : ℕ) (first : PageMap) (world : World) (session : ℕ) (state : SessionState) → IsWorld s first world
     → IsWorld s first (rollback_step world session state).world
 rollback_keeps s first world session Out whole = whole
-rollback_keeps s first world session (Open transaction) whole = moved_keeps s first world session Out told.Ok tt whole
-rollback_keeps s first world session (Refused transaction) whole = moved_keeps s first world session Out told.Ok tt whole
+rollback_keeps s first world session (Open transaction) whole = moved_keeps s first world session Out told.Ok tt tt whole
+rollback_keeps s first world session (Refused transaction) whole = moved_keeps s first world session Out told.Ok tt tt whole
 
 -- each act
 pub step_keeps : (s : ℕ) (first : PageMap) (world : World) (one : Act) → IsInRange one → IsWorld s first world → IsWorld s first (step world one).world
 step_keeps s first world (act.Begin session) range whole = begin_keeps s first world session (world.sessions session) whole
 step_keeps s first world (act.Read session page) range whole =
-    read_keeps s first world session page (world.sessions session) range.0 range.1 (whole.held session) whole
+    read_keeps s first world session page (world.sessions session) range.0 range.1 (whole.held session) (whole.ordinals.past session) whole
 step_keeps s first world (act.Write session page byte) range whole =
-    write_keeps s first world session page byte (world.sessions session) range.0 range.1 (whole.held session) whole
+    write_keeps s first world session page byte (world.sessions session) range.0 range.1 (whole.held session) (whole.ordinals.past session) whole
 step_keeps s first world (act.Commit session) range whole =
-    commit_keeps s first world session (world.sessions session) (whole.held session) whole
+    commit_keeps s first world session (world.sessions session) (whole.held session) (whole.ordinals.past session) whole
 step_keeps s first world (act.Rollback session) range whole = rollback_keeps s first world session (world.sessions session) whole
 step_keeps s first world act.Copy range whole = whole
 step_keeps s first world act.Step range whole = whole
@@ -405,16 +372,17 @@ world_is_serial s first world whole = record {
       (whole.follows number before after commit answers old one said new).serial;
   counts = (whole.maps_count, whole.answers_count);
   others = λ session. sees_snapshot s world (world.sessions session) whole.stores (whole.held session);
+  ordinals = whole.ordinals.rise;
 }
 
 -- 16 pages of one legal size, with a zero at byte 100, are a page store
-alike_are_store : (row : List ℕ) (s : ℕ) → length row ≡ s → Contains page_sizes s → slice_index row 100 ≡ 0
-    → IsStore s (replicate 16 row)
-alike_are_store row s is legal none = record {
+alike_are_store : (bytes : List ℕ) (s : ℕ) → length bytes ≡ s → Contains page_sizes s → slice_index bytes 100 ≡ 0
+    → IsStore s (replicate 16 bytes)
+alike_are_store bytes s is legal none = record {
   store = record {
-    count = length-replicate 16 row;
+    count = length-replicate 16 bytes;
     size = subst (Contains page_sizes) (sym is) legal;
-    each = All-replicate (λ (page : List ℕ). length page ≡ length row) 16 row refl;
+    each = All-replicate (λ (page : List ℕ). length page ≡ length bytes) 16 bytes refl;
     no_tree = none;
   };
   size = is;
@@ -424,9 +392,9 @@ alike_are_store row s is legal none = record {
 pub zeros_are_store : IsStore 4096 zeros
 unfolding zeros
 zeros_are_store =
-    let row : List ℕ = replicate 4096 0 in
+    let bytes : List ℕ = replicate 4096 0 in
     let none : ℕ = 0 in
-    alike_are_store row 4096 (length-replicate 4096 none) (3, omega arith, refl) refl
+    alike_are_store bytes 4096 (length-replicate 4096 none) (3, omega arith, refl) refl
 
 -- a world in which nothing has happened yet
 pub world_over-is : (s : ℕ) (first : PageMap) → IsStore s first → IsWorld s first (world_over first)
@@ -436,8 +404,9 @@ world_over-is s first sound = record {
   answers_count = refl;
   stores = All-cons (IsStore s) first [] sound (All-nil (IsStore s));
   follows = λ k old new commit answers is_old is_commit is_answers is_new.
-      absurd (let bound = inside [] k commit is_commit in omega arith);
+      absurd (let bound = slice_get_within [] k commit is_commit in omega arith);
   held = λ session. tt;
+  ordinals = ordinals_none (λ session. 0) (λ session. Out);
 }
 
 -- whatever page lines are run over a page store, the world after them is serial from there

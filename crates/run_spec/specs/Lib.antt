@@ -6,6 +6,7 @@ pub mod Seen
 pub mod Good
 pub mod PageLines
 pub mod PageLineLaws
+pub mod Range
 pub mod World
 pub mod Alike
 pub mod Reply

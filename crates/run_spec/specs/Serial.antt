@@ -1,9 +1,7 @@
 -- What a run of page lines amounts to: the committed transactions ran one after another, and all others saw their snapshot.
-use Rattle.std.specs.Prelude.{◌≡◌, ℕ, ◌+◌, ◌<◌, ◌≤◌, List, [], ◌∷◌, ◌++◌, length, map, slice_index, slice_get, All, Some}
+use Rattle.std.specs.Prelude.{◌≡◌, ℕ, ◌+◌, ◌-◌, ◌^◌, ◌<◌, ◌≤◌, List, [], ◌∷◌, ◌++◌, length, map, slice_index, slice_get, Some}
 use Rattle.page_spec.specs.PageMap.{PageMap, page_at}
 use Rattle.run_spec.specs.declared.commits.Commit.{Commit}
-use Rattle.run_spec.specs.declared.lines.Act.{Act}
-use Rattle.run_spec.specs.declared.lines.Act.TheVariants as act
 use Rattle.run_spec.specs.declared.lines.Told.{Told}
 use Rattle.run_spec.specs.declared.lines.Told.TheVariants as told
 use Rattle.run_spec.specs.PageLines.{Statement, ReadPage, WritePage, statement_text, page_after}
@@ -37,7 +35,8 @@ SeesSnapshot world Out = Unit {0}
 SeesSnapshot world (Open transaction) = IsAtSnapshot (map_number world transaction.snap) transaction
 SeesSnapshot world (Refused transaction) = IsAtSnapshot (map_number world transaction.snap) transaction
 
--- Serial order: each commit in turn, and each transaction that is open or was refused.
+-- Serial order: each commit in turn, and each transaction that is open or was refused. The ordinals of one session's commits rise,
+-- as long as its count of transactions begun isn't at its last value, 2^64 - 1.
 pub record IsSerial (world : World) : Type 0 where
   pub commits : (number : ℕ) (before after : PageMap) (commit : Commit) (answers : List Told)
       → slice_get world.maps number ≡ Some before → slice_get world.history number ≡ Some commit
@@ -45,23 +44,11 @@ pub record IsSerial (world : World) : Type 0 where
       → IsSerialCommit number before commit answers after
   pub counts : (length world.maps ≡ length world.history + 1) × (length world.answers ≡ length world.history)
   pub others : (session : ℕ) → SeesSnapshot world (world.sessions session)
+  pub ordinals : (earlier later : ℕ) (one other : Commit) → earlier < later → slice_get world.history earlier ≡ Some one
+      → slice_get world.history later ≡ Some other → one.entry.session ≡ other.entry.session
+      → world.begun one.entry.session < 2 ^ 64 - 1 → one.entry.ordinal < other.entry.ordinal
 
 -- Serial order from a first map: the commits ran one after another from there.
 pub record IsSerialFrom (first : PageMap) (world : World) : Type 0 where
   pub begins : slice_get world.maps 0 ≡ Some first
   pub serial : IsSerial world
-
--- an act names a page from 2 to 16, and a byte below 256, where it names one
-abbrev pub IsInRange : Act → Type 0
-IsInRange (act.Begin session) = Unit {0}
-IsInRange (act.Read session page) = (2 ≤ page) × (page ≤ 16)
-IsInRange (act.Write session page byte) = (2 ≤ page) × (page ≤ 16) × (byte < 256)
-IsInRange (act.Commit session) = Unit {0}
-IsInRange (act.Rollback session) = Unit {0}
-IsInRange act.Copy = Unit {0}
-IsInRange act.Step = Unit {0}
-IsInRange act.Logs = Unit {0}
-
--- so do all of these acts
-abbrev pub AreInRange : List Act → Type 0
-AreInRange acts = All IsInRange acts
