@@ -1,6 +1,9 @@
 pub mod SeatLaws
 pub mod Telling
 pub mod Standing
+pub mod StandingStatements
+pub mod StandingCommits
+pub mod StandingActs
 pub mod Memory
 pub mod Places
 pub mod Outcomes
@@ -9,3 +12,5 @@ pub mod Copying
 pub mod Growth
 pub mod Endings
 pub mod Runs
+pub mod Soundness
+pub mod Answered

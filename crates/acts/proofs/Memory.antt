@@ -1,5 +1,5 @@
 -- The store in memory: its start, and its acts.
-use Rattle.std.proofs.Common.{◌≡◌, ◌∙◌, ℕ, ◌+◌, ◌≤◌, List, [], ◌∷◌, ◌++◌, length, refl, sym, ap, subst, arith, append-nil}
+use Rattle.std.proofs.Common.{◌≡◌, ◌∙◌, ℕ, ◌≤◌, List, [], ◌∷◌, ◌++◌, length, refl, sym, ap, subst, inl, arith, append-nil}
 use Rattle.std.specs.Prelude.{Some, Contains, slice_get}
 use Rattle.page_spec.specs.PageMap.{PageMap, page_size_of}
 use Rattle.run_spec.specs.declared.pins.Pin.{Pin}
@@ -12,7 +12,9 @@ use Rattle.acts.specs.declared.seats.Seat.{Seat}
 use Rattle.acts.specs.Pagers.{Between, Acts, AreSound, pins_of}
 use Rattle.memory_engine.specs.Plain.{PlainState, IsPlain, PlainLive, newest_of, plain_seen}
 use Rattle.acts.specs.InMemory.{Memory, IsAt}
-use Rattle.acts.proofs.Standing.{Stands, acts_stand, stay, tells_quiet}
+use Rattle.acts.proofs.Telling.{never_rose}
+use Rattle.acts.proofs.Standing.{Stands, stay, tells_quiet}
+use Rattle.acts.proofs.StandingActs.{acts_stand}
 
 -- the engine in memory before and after something
 abbrev pub plain_between : PlainState → PlainState → Between
@@ -50,7 +52,7 @@ finds before after seats next world at maps = record {
   alone = tt;
   stands = at.stands;
   sound = at.sound;
-  quiet = refl;
+  quiet = never_rose 0 0 refl refl;
   maps = λ pin new old.
       maps [] pin (live_alone (record { plain = before; seats = seats }) world at)
       (subst (λ (pins : List Pin). Contains pins pin) (sym (append-nil (pins_of next))) new)
@@ -69,7 +71,7 @@ pub memory_acts : (before after : PlainState) (seats next : List Seat) (world : 
     → KeepsMaps before after seats next → KeepsLive before after seats next → AreSound after.page_size next
     → (told ≡ (step world one).told) × IsAt (record { plain = after; seats = next }) (step world one).world
 memory_acts before after seats next world one told at acts maps live sound =
-    let leads = acts_stand (plain_between before after) seats next world one told (finds before after seats next world at maps) acts in
+    let leads = acts_stand (plain_between before after) seats next world one told (finds before after seats next world at maps) (inl refl) acts in
     (leads.0, record { stands = leads.1; sound = sound; live = live_after before after seats next world at live })
 
 -- want of memory leads nowhere
@@ -100,8 +102,6 @@ memory_starts plain seats pages size store whole maps history page_size none =
           size = ap length newest ∙ store.store.count;
           page_size = page_size;
           running = refl;
-          quiet = refl;
-          logs = refl;
           count = refl;
         };
         sessions = λ session. tt;

@@ -50,7 +50,7 @@ sound_fetch page_size now old new page same is sound =
       fills = fills_read page_size sound.statements old.changed page sound.fills;
     }))
 
-after_write_sound : (page_size : ℕ) (old : Transaction) (page byte : ℕ) → 2 ≤ page → page ≤ 16
+pub after_write_sound : (page_size : ℕ) (old : Transaction) (page byte : ℕ) → 2 ≤ page → page ≤ 16
     → IsSoundTransaction page_size old → IsSoundTransaction page_size (after_write page_size old page byte)
 after_write_sound page_size old page byte low high sound = record {
   pages = sound.pages;

@@ -1,4 +1,4 @@
--- What an engine tells after its own calls, where it is alone and keeps no logs.
+-- What an engine tells after its own calls, where it is alone.
 use Rattle.std.proofs.Common.{◌≡◌, ◌∙◌, ℕ, ◌+◌, ◌*◌, ◌^◌, ◌<◌, ◌≤◌, List, [], ◌∷◌, ◌++◌, length, map, refl, sym, ap, subst, inl, inr, arith, rules, get_or, length-append, eqb, eqb-true, true}
 use Rattle.std.specs.Prelude.{Option, Some, None, Contains, All}
 use Rattle.std.specs.Option.{option_map}
@@ -20,22 +20,20 @@ use Rattle.run_spec.specs.declared.commits.Commit.{Commit}
 use Rattle.run_spec.specs.Logs.{LogState}
 use Rattle.run_spec.specs.PageLines.{AreImages, IsPageStore}
 use Rattle.run_spec.specs.Seen.{Seen, IsOver, pages_after, frames_after}
-use Rattle.run_spec.proofs.Laying.{IsWhole, laid-page_size}
-use Rattle.run_spec.proofs.GoodLines.{legal_size, laid-store}
+use Rattle.run_spec.proofs.Laying.{laid-page_size}
+use Rattle.run_spec.proofs.GoodLines.{legal_size, lines_whole, laid-store}
 use Rattle.acts.specs.InMemory.{TellsOf, PinStands}
 
--- where nothing but the logs and the faults changed, and of these there are none, all stays
+-- where nothing but the logs and the faults changed, all stays
 pub tells_as : (old new : Seen) (maps : List PageMap) (history : List Commit) (logs : Option LogState) (faults : ℕ)
-    → new ≡ record old { logs = logs; faults = faults } → logs ≡ None → faults ≡ 0 → TellsOf old maps history → TellsOf new maps history
-tells_as old new maps history logs faults is none quiet tells = record {
+    → new ≡ record old { logs = logs; faults = faults } → TellsOf old maps history → TellsOf new maps history
+tells_as old new maps history logs faults is tells = record {
   history_is = ap (λ (s : Seen). s.history) is ∙ tells.history_is;
   newest = ap (λ (s : Seen). s.newest) is ∙ tells.newest;
   store = tells.store;
   size = ap (λ (s : Seen). s.size) is ∙ tells.size;
   page_size = ap (λ (s : Seen). s.page_size) is ∙ tells.page_size;
   running = ap (λ (s : Seen). s.stopped) is ∙ tells.running;
-  quiet = ap (λ (s : Seen). s.faults) is ∙ quiet;
-  logs = ap (λ (s : Seen). s.logs) is ∙ none;
   count = tells.count;
 }
 
@@ -73,15 +71,7 @@ newest_pushed maps pages history commit count =
     let at : length (history ++ commit ∷ []) ≡ length maps = omega (arith, length-append history (commit ∷ [])) in
     ap (λ (k : ℕ). get_or (maps ++ pages ∷ []) k []) at ∙ get_or-append_seam maps pages [] []
 
--- the change of a transaction of page lines is one of whole pages of the store
-lines_whole : (change : Change) (s : ℕ) → AreImages s change.changed → change.fresh ≡ [] → IsWhole 16 s change
-lines_whole change s images none = record {
-  in_range = λ k d within. (let one = images.in_range k d within in (omega arith, one.1));
-  whole = images.whole;
-  fresh = none;
-}
-
--- laying such a change keeps the page size of a page store
+-- laying a change of page lines keeps the page size of a page store
 laid_size : (pages : PageMap) (change : Change) → change.fresh ≡ [] → AreImages (page_size_of pages) change.changed → IsPageStore pages
     → page_size_of (laid pages change) ≡ page_size_of pages
 laid_size pages change none images store =
@@ -94,10 +84,9 @@ laid_size pages change none images store =
 pub tells_more : (old new : Seen) (maps : List PageMap) (history : List Commit) (change : Change) (commit : Commit)
     → change.fresh ≡ [] → AreImages old.page_size change.changed
     → new.history ≡ old.history ++ commit ∷ [] → new.newest ≡ option_map (λ (pages : PageMap). laid pages change) old.newest
-    → new.size ≡ pages_after old change → new.page_size ≡ old.page_size → new.stopped ≡ old.stopped → new.faults ≡ 0 → new.logs ≡ None
-    → TellsOf old maps history
+    → new.size ≡ pages_after old change → new.page_size ≡ old.page_size → new.stopped ≡ old.stopped → TellsOf old maps history
     → TellsOf new (maps ++ laid (get_or maps (length history) []) change ∷ []) (history ++ commit ∷ [])
-tells_more old new maps history change commit fresh images is_history is_newest is_size is_page_size is_stopped quiet logs tells =
+tells_more old new maps history change commit fresh images is_history is_newest is_size is_page_size is_stopped tells =
     let newest = get_or maps (length history) [] in
     let next = laid newest change in
     let there : get_or (maps ++ next ∷ []) (length (history ++ commit ∷ [])) [] ≡ next =
@@ -111,8 +100,6 @@ tells_more old new maps history change commit fresh images is_history is_newest 
       size = omega (arith, is_size, tells.size, ap length fresh);
       page_size = is_page_size ∙ tells.page_size ∙ sym size ∙ ap page_size_of (sym there);
       running = is_stopped ∙ tells.running;
-      quiet = quiet;
-      logs = logs;
       count = omega (arith, tells.count, length-append maps (next ∷ []), length-append history (commit ∷ []));
     }
 
@@ -146,10 +133,10 @@ few_images s images are =
         let at : q ≡ (get_or images there.0 d).page = sym there.2 ∙ is in
         omega arith
 
--- a change of page lines passes no limit
+-- where there are no logs, a change of page lines passes no limit
 pub not_over : (seen : Seen) (maps : List PageMap) (history : List Commit) (change : Change) → TellsOf seen maps history
-    → change.fresh ≡ [] → change.freed ≡ [] → AreImages seen.page_size change.changed → IsOver seen change → ⊥
-not_over seen maps history change tells fresh freed images over = elim over [
+    → seen.logs ≡ None → change.fresh ≡ [] → change.freed ≡ [] → AreImages seen.page_size change.changed → IsOver seen change → ⊥
+not_over seen maps history change tells no_logs fresh freed images over = elim over [
   | inl pages ↦
       (let count : pages_after seen change ≡ 16 = omega (arith, tells.size, ap length fresh) in
       let many : 2 ^ 30 < 16 * seen.page_size = subst (λ (n : ℕ). 2 ^ 30 < n * seen.page_size) count pages in
@@ -157,6 +144,6 @@ not_over seen maps history change tells fresh freed images over = elim over [
       subst (λ (s : ℕ). s ≤ 65536) (sym tells.page_size) (most_size (page_size_of (get_or maps (length history) [])) tells.store.size) in
       omega arith)
   | inr frames ↦
-      (let none : frames_after seen change ≡ 0 + length change.changed + length change.fresh + length change.freed + 2 = rw tells.logs refl in
+      (let none : frames_after seen change ≡ 0 + length change.changed + length change.fresh + length change.freed + 2 = rw no_logs refl in
       omega (arith, none, ap length fresh, ap length freed, few_images seen.page_size change.changed images))
 ]

@@ -15,7 +15,7 @@ use Rattle.acts.specs.declared.seats.Transaction.{Transaction}
 use Rattle.acts.specs.Pagers.{state_of, begun_of, pins_of, AreSound}
 use Rattle.memory_engine.specs.Plain.{PlainState, PlainLive, plain_seen}
 
--- The engine tells of the last of these maps, which is a page store, and of these commits. No disk failed, and it keeps no logs.
+-- The engine tells of the last of these maps, which is a page store, and of these commits. No write of a log failed.
 pub record TellsOf (seen : Seen) (maps : List PageMap) (history : List Commit) : Type 0 where
   pub history_is : seen.history ≡ history
   pub newest : seen.newest ≡ Some (slice_index_or maps (length history) [])
@@ -23,8 +23,6 @@ pub record TellsOf (seen : Seen) (maps : List PageMap) (history : List Commit) :
   pub size : seen.size ≡ 16
   pub page_size : seen.page_size ≡ page_size_of (slice_index_or maps (length history) [])
   pub running : seen.stopped ≡ None
-  pub quiet : seen.faults ≡ 0
-  pub logs : seen.logs ≡ None
   pub count : length maps ≡ length history + 1
 
 -- The pin is of one of these maps, and the engine tells that map.

@@ -1,3 +1,4 @@
 pub mod Pagers
 pub mod InMemory
 pub mod Turns
+pub mod Playing

@@ -68,17 +68,6 @@ IsSoundState page_size (Refused pin) = Unit {0}
 abbrev pub AreSound : ℕ → List Seat → Type 0
 AreSound page_size seats = All (λ seat. IsSoundState page_size seat.state) seats
 
--- the page of an act is one that page lines may name, and a byte is a byte
-abbrev pub IsInRange : Act → Type 0
-IsInRange (act.Read session page) = (2 ≤ page) × (page ≤ 16)
-IsInRange (act.Write session page byte) = (2 ≤ page) × (page ≤ 16)
-IsInRange (act.Begin session) = Unit {0}
-IsInRange (act.Commit session) = Unit {0}
-IsInRange (act.Rollback session) = Unit {0}
-IsInRange act.Copy = Unit {0}
-IsInRange act.Step = Unit {0}
-IsInRange act.Logs = Unit {0}
-
 -- a transaction that has just begun
 abbrev pub new_transaction : Pin → Transaction
 new_transaction pin = record { pin = pin; reads = []; changed = []; said = []; wrote = false }
@@ -267,9 +256,10 @@ Plays alone free old maps seats (act ∷ acts) (answer ∷ answers) new =
 Plays alone free old maps seats [] (answer ∷ answers) new = ⊥
 Plays alone free old maps seats (act ∷ acts) [] new = ⊥
 
--- the history, and which of it are the engine's own commits, grew at their ends alone
+-- The history, and which of it are the engine's own commits, grew at their ends alone, and the count of faults didn't fall.
 pub record Grew (old new : Seen) : Type 0 where
   pub more : List Commit
   pub history : new.history ≡ old.history ++ more
   pub more_own : List ℕ
   pub own : new.own ≡ old.own ++ more_own
+  pub faults : old.faults ≤ new.faults

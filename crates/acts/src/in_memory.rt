@@ -1,7 +1,7 @@
 // A store of pages in memory with its sessions.
 ghost use Rattle.std.specs.Prelude.{◌≡◌, IfOk, OnErr};
 ghost use Rattle.run_spec.specs.World.{World, zeros, start, step};
-ghost use Rattle.acts.specs.Pagers.{IsInRange};
+ghost use Rattle.run_spec.specs.Range.{IsInRange};
 ghost use Rattle.acts.specs.InMemory.{Memory, IsAt};
 
 use crate::{Pagers, Plain, Raw};

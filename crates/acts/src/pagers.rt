@@ -4,7 +4,8 @@ ghost use Rattle.page_spec.specs.PageMap.{PageMap};
 ghost use Rattle.run_spec.specs.declared.lines.Act.TheVariants as act;
 ghost use Rattle.run_spec.specs.declared.pins.Pin.{Pin};
 ghost use Rattle.run_spec.specs.Seen.{Found, OnlyFaults};
-ghost use Rattle.acts.specs.Pagers.{Acts, AreSound, EndsAll, IsInRange, pins_of};
+ghost use Rattle.run_spec.specs.Range.{IsInRange};
+ghost use Rattle.acts.specs.Pagers.{Acts, AreSound, EndsAll, pins_of};
 ghost use Rattle.acts.specs.Turns.{act_of, Stays};
 
 use crate::seats::{Seat, State};

@@ -1,6 +1,8 @@
 use Rattle.std.proofs.Common.{[], ◌∙◌}
+use Rattle.std.proofs.lemmas.Result.{IfOk-weaker}
 use Rattle.std.proofs.lemmas.List.Elements.{Contains-append_right}
 use Rattle.acts.specs.Pagers.{pins_of}
+use Rattle.acts.proofs.Answered.{rests_answered}
 use Rattle.acts.proofs.Growth.{grew_all, grew_on}
 use Rattle.acts.proofs.playing.play.Goals as goal
 
@@ -15,3 +17,12 @@ returns-clause-maps g c = λ others pin lives there.
     c.end.ensures.stays.maps [] others pin (c.play_on-answers.ensures.live others lives)
     (Contains-append_right (pins_of c.play_on-answers.new.pagers) others pin there) there
     ∙ c.play_on-answers.ensures.maps others pin lives there
+
+pub returns-clause-answers : goal.returns-clause-answers
+returns-clause-answers g c = λ here world rests quiet.
+    IfOk-weaker c.play_on-answers.result _ _
+    (λ told plays said.
+    rests_answered (g.E.Engine.alone c.args.engine.now) (g.E.Engine.free c.args.engine.now) (g.E.Engine.seen c.args.engine.now)
+    (g.E.Engine.map_at c.args.engine.now) c.args.acts.now told.items (g.E.Engine.seen c.end.new.engine) world here c.requires.range rests
+    quiet said (plays (g.E.Engine.seen c.end.new.engine) c.end.ensures.ends))
+    c.play_on-answers.ensures.plays

@@ -5,7 +5,7 @@ use Rattle.run_spec.specs.declared.lines.Act.TheVariants.{Begin}
 use Rattle.run_spec.specs.declared.lines.Told.{Told}
 use Rattle.acts.specs.declared.seats.Seat.{Seat}
 use Rattle.acts.specs.Pagers.{AreSound, Plays, pins_of}
-use Rattle.acts.proofs.Growth.{acts_grew, grew_equal, grew_faults, grew_on}
+use Rattle.acts.proofs.Growth.{acts_go, grew_equal, grew_faults, grew_on}
 use Rattle.acts.proofs.Runs.{answers_on, keeps_next, maps_next, none_left, plays_next}
 use Rattle.acts.proofs.playing.play_on.Goals as goal
 
@@ -48,9 +48,9 @@ loop-act-preserved g c =
           (λ free. before.is_free) acted.acts
           (keeps_next g.E.Engine.live g.E.Engine.map_at c.loop-act.engine c.act.new.engine c.loop-act.pagers c.act.new.self
           (before.live [] c.requires.live) acted.maps) rest));
-      grew = grew_on _ _ _ before.grew (acts_grew (g.E.Engine.alone c.loop-act.engine) (g.E.Engine.free c.loop-act.engine) (g.E.Engine.seen c.loop-act.engine)
+      grew = grew_on _ _ _ before.grew (acts_go (g.E.Engine.alone c.loop-act.engine) (g.E.Engine.free c.loop-act.engine) (g.E.Engine.seen c.loop-act.engine)
           (g.E.Engine.seen c.act.new.engine) (g.E.Engine.map_at c.loop-act.engine) (g.E.Engine.map_at c.act.new.engine) c.loop-act.pagers
-          (get_or c.args.acts.now c.loop-act.act-index (Begin 0)) c.in_ok-act.field-0 c.act.new.self acted.acts);
+          (get_or c.args.acts.now c.loop-act.act-index (Begin 0)) c.in_ok-act.field-0 c.act.new.self acted.acts).grew;
       is_free = acted.free;
       pages = acted.pages;
       page_size = acted.page_size ∙ before.page_size;
@@ -72,9 +72,9 @@ returns-in_err-act-clause-maps g c =
     c.loop-act.invariant.live c.loop-act.invariant.maps c.in_err-act.ensures.maps
 
 pub returns-in_err-push-clause-grew : goal.returns-in_err-push-clause-grew
-returns-in_err-push-clause-grew g c = grew_on _ _ _ c.loop-act.invariant.grew (acts_grew (g.E.Engine.alone c.loop-act.engine) (g.E.Engine.free c.loop-act.engine) (g.E.Engine.seen c.loop-act.engine)
+returns-in_err-push-clause-grew g c = grew_on _ _ _ c.loop-act.invariant.grew (acts_go (g.E.Engine.alone c.loop-act.engine) (g.E.Engine.free c.loop-act.engine) (g.E.Engine.seen c.loop-act.engine)
     (g.E.Engine.seen c.act.new.engine) (g.E.Engine.map_at c.loop-act.engine) (g.E.Engine.map_at c.act.new.engine) c.loop-act.pagers
-    (get_or c.args.acts.now c.loop-act.act-index (Begin 0)) c.in_ok-act.field-0 c.act.new.self c.in_ok-act.ensures.acts)
+    (get_or c.args.acts.now c.loop-act.act-index (Begin 0)) c.in_ok-act.field-0 c.act.new.self c.in_ok-act.ensures.acts).grew
 
 pub returns-in_err-push-clause-maps : goal.returns-in_err-push-clause-maps
 returns-in_err-push-clause-maps g c =

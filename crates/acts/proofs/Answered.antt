@@ -1,0 +1,209 @@
+-- A run of page lines over an engine that rests at a world is answered as the run over whole page maps is.
+use Rattle.std.proofs.Common.{◌≡◌, ℕ, ◌+◌, ◌<◌, ◌≤◌, List, [], ◌∷◌, ◌++◌, length, take, get_or, Option, Some, None, zero, suc, refl, sym, subst, ap, ◌∙◌, inl, inr, arith, length-append}
+use Rattle.std.specs.Prelude.{◌⊎◌}
+use Rattle.std.proofs.lemmas.Bool.{cases_lt}
+use Rattle.std.proofs.lemmas.List.{length-take-le, get_or_push}
+use Rattle.std.proofs.lemmas.List.Elements.{All-head, All-tail}
+use Rattle.disk_face.specs.Faults.{Rose, last_count}
+use Rattle.page_spec.specs.PageMap.{PageMap, page_size_of}
+use Rattle.run_spec.specs.declared.pins.Pin.{Pin}
+use Rattle.run_spec.specs.declared.lines.Act.{Act}
+use Rattle.run_spec.specs.declared.lines.Told.{Told}
+use Rattle.run_spec.specs.PageLines.{IsPageStore}
+use Rattle.run_spec.specs.Range.{IsInRange, AreInRange}
+use Rattle.run_spec.specs.Seen.{Seen}
+use Rattle.run_spec.specs.World.{World, newest_map, step, answers_to, world_over}
+use Rattle.run_spec.specs.Alike.{AreAlike, AreAlikeWorlds}
+use Rattle.run_spec.proofs.Alone.{IsStore, page-long}
+use Rattle.run_spec.proofs.AlikeLaw.{answers_alike, out_may}
+use Rattle.memory_engine.specs.Plain.{PlainState, newest_of, plain_seen}
+use Rattle.acts.specs.declared.seats.Seat.{Seat}
+use Rattle.acts.specs.declared.seats.State.TheVariants as seat
+use Rattle.acts.specs.Pagers.{Between, Plays, AreSound}
+use Rattle.acts.specs.Playing.{RestsAt, IsWithoutLogs, IsOfSession, AreSessions, HasNoLimit, HaveNoLimit}
+use Rattle.acts.specs.InMemory.{Matches, StandsAt}
+use Rattle.acts.proofs.Growth.{GoesOn, acts_go, plays_go}
+use Rattle.acts.proofs.Soundness.{acts_sound}
+use Rattle.acts.proofs.Standing.{MindsNoLogs}
+use Rattle.acts.proofs.StandingActs.{acts_stand}
+
+-- there are no logs, or else the acts are of sessions and met no limit
+abbrev pub MindNoLogs : Seen → List Act → List Told → Type 0
+MindNoLogs seen acts answers = IsWithoutLogs seen ⊎ (AreSessions acts × HaveNoLimit answers)
+
+-- so it is of the first act
+minds_first : (seen : Seen) (one : Act) (acts : List Act) (answer : Told) (answers : List Told)
+    → MindNoLogs seen (one ∷ acts) (answer ∷ answers) → MindsNoLogs seen one answer
+minds_first seen one acts answer answers minds = elim minds [
+  | inl none ↦ inl none
+  | inr both ↦ inr (All-head IsOfSession one acts both.0, All-head HasNoLimit answer answers both.1)
+]
+
+-- and of the others
+minds_others : (seen mid : Seen) (one : Act) (acts : List Act) (answer : Told) (answers : List Told) → (seen.logs ≡ None → mid.logs ≡ None)
+    → MindNoLogs seen (one ∷ acts) (answer ∷ answers) → MindNoLogs mid acts answers
+minds_others seen mid one acts answer answers stays minds = elim minds [
+  | inl none ↦ inl (stays none)
+  | inr both ↦ inr (All-tail IsOfSession one acts both.0, All-tail HasNoLimit answer answers both.1)
+]
+
+-- a count that didn't rise over two moves rose in neither
+rose_first : (old mid new : ℕ) → mid ≤ new → Rose old mid → Rose old new
+rose_first old mid new more rose = record { later = omega (arith, rose.later); counted = by_count rose.counted (cases_lt mid new) }
+  where
+    by_count : (old < mid) ⊎ (mid ≡ last_count) → (mid < new) ⊎ (new ≤ mid) → (old < new) ⊎ (new ≡ last_count)
+    by_count (inl less) other = (let sure = rose.later in inl (omega arith))
+    by_count (inr last) (inl less) = (let sure = rose.later in inl (omega arith))
+    by_count (inr last) (inr same) = inr (omega arith)
+
+rose_then : (old mid new : ℕ) → old ≤ mid → Rose mid new → Rose old new
+rose_then old mid new more rose = record {
+  later = omega (arith, rose.later);
+  counted = elim (rose.counted) [ inl less ↦ inl (omega arith) | inr last ↦ inr last ];
+}
+
+-- Acts over an engine that is alone and stands at a world are answered as the world is, one after another.
+plays_answered : (alone free : Type 0) (old : Seen) (maps : Pin → Option PageMap) (seats : List Seat) (acts : List Act)
+    (answers : List Told) (new : Seen) (world : World) → alone → AreInRange acts → StandsAt old maps seats world
+    → AreSound old.page_size seats → (Rose old.faults new.faults → ⊥) → MindNoLogs old acts answers
+    → Plays alone free old maps seats acts answers new → answers ≡ answers_to world acts
+plays_answered alone free old maps seats [] [] new world here range stands sound quiet minds plays = refl
+plays_answered alone free old maps seats [] (answer ∷ answers) new world here range stands sound quiet minds never = absurd never
+plays_answered alone free old maps seats (one ∷ acts) [] new world here range stands sound quiet minds never = absurd never
+plays_answered alone free old maps seats (one ∷ acts) (answer ∷ answers) new world here range stands sound quiet minds
+    (mid, maps_then, seats_then, acted, keeps, rest) =
+    let engine : Between =
+    record { alone = alone; free = free; old = old; new = mid; map_before = maps; map_after = maps_then } in
+    let goes : GoesOn alone old mid = acts_go alone free old mid maps maps_then seats one answer seats_then acted in
+    let others : GoesOn alone mid new = plays_go alone free mid maps_then seats_then acts answers new rest in
+    let leads = acts_stand engine seats seats_then world one answer (record {
+      alone = here;
+      stands = stands;
+      sound = sound;
+      quiet = λ rose. quiet (rose_first old.faults mid.faults new.faults others.grew.faults rose);
+      maps = λ pin now was. keeps pin was now;
+    }) (minds_first old one acts answer answers minds) acted in
+    let sound_then : AreSound mid.page_size seats_then =
+    subst (λ (size : ℕ). AreSound size seats_then) (sym goes.page_size)
+    (acts_sound engine seats seats_then one answer (omega (arith, stands.tells.size)) (All-head IsInRange one acts range) sound acted) in
+    ap (λ (told : Told). told ∷ answers) leads.0
+    ∙ ap (λ (told : List Told). (step world one).told ∷ told)
+    (plays_answered alone free mid maps_then seats_then acts answers new (step world one).world here (All-tail IsInRange one acts range)
+    leads.1 sound_then (λ rose. quiet (rose_then old.faults mid.faults new.faults goes.grew.faults rose))
+    (minds_others old mid one acts answer answers (goes.no_logs here) minds) rest)
+
+-- the world with the engine's own map in the place of its newest one
+resting : World → PageMap → World
+resting world pages = record world { maps = take (length world.history) world.maps ++ pages ∷ [] }
+
+-- maps of which the last is another are alike where the last ones are
+last_alike : (maps : List PageMap) (n : ℕ) (pages : PageMap) → length maps ≡ n + 1 → AreAlike pages (get_or maps n []) → (number : ℕ)
+    → AreAlike (get_or (take n maps ++ pages ∷ []) number []) (get_or maps number [])
+last_alike [] n pages count alike number = absurd (omega arith)
+last_alike (first ∷ []) zero pages count alike zero = alike
+last_alike (first ∷ []) zero pages count alike (suc number) = λ page low high. refl
+last_alike (first ∷ second ∷ maps) zero pages count alike number = absurd (omega arith)
+last_alike (first ∷ maps) (suc n) pages count alike zero = λ page low high. refl
+last_alike (first ∷ maps) (suc n) pages count alike (suc number) = last_alike maps n pages (omega arith) alike number
+
+-- its length
+count_last : (maps : List PageMap) (n : ℕ) (pages : PageMap) → length maps ≡ n + 1 → length (take n maps ++ pages ∷ []) ≡ n + 1
+count_last maps n pages count = omega (arith, length-append (take n maps) (pages ∷ []), length-take-le n maps (omega arith))
+
+-- and its last
+last_is : (maps : List PageMap) (n : ℕ) (pages : PageMap) → length maps ≡ n + 1 → get_or (take n maps ++ pages ∷ []) n [] ≡ pages
+last_is maps n pages count = get_or_push (take n maps) pages [] n (length-take-le n maps (omega arith))
+
+-- page stores with the same pages 2 to 16 have one page size
+alike_size : (one other : PageMap) → IsPageStore one → IsPageStore other → AreAlike one other → page_size_of one ≡ page_size_of other
+alike_size one other store other_store alike =
+    sym (page-long (page_size_of one) one 2 (record { store = store; size = refl }) (omega arith) (omega arith))
+    ∙ ap length (alike 2 (omega arith) (omega arith))
+    ∙ page-long (page_size_of other) other 2 (record { store = other_store; size = refl }) (omega arith) (omega arith)
+
+-- An engine that rests at a world stands at the one with its own newest map, as long as no session has acted.
+rests_stand : (seen : Seen) (map_at : Pin → Option PageMap) (world : World) (rests : RestsAt seen world)
+    → StandsAt seen map_at [] (resting world rests.pages)
+unfolding resting
+rests_stand seen map_at world rests =
+    let newest = last_is world.maps (length world.history) rests.pages rests.count in
+    record {
+      tells = record {
+        history_is = rests.history;
+        newest = rests.newest ∙ ap Some (sym newest);
+        store = subst IsPageStore (sym newest) rests.store;
+        size = rests.size;
+        page_size = rests.page_size ∙ ap page_size_of (sym newest);
+        running = rests.running;
+        count = count_last world.maps (length world.history) rests.pages rests.count;
+      };
+      sessions = λ session.
+          subst (Matches map_at (take (length world.history) world.maps ++ rests.pages ∷ []) seat.Out) (sym (rests.out session)) tt;
+      begun = rests.none_begun;
+    }
+
+-- the two worlds are alike
+rests_alike : (seen : Seen) (world : World) (rests : RestsAt seen world) → AreAlikeWorlds (resting world rests.pages) world
+unfolding resting
+rests_alike seen world rests = record {
+  history = refl;
+  sessions = λ session. refl;
+  begun = λ session. refl;
+  count = count_last world.maps (length world.history) rests.pages rests.count ∙ sym rests.count;
+  maps = last_alike world.maps (length world.history) rests.pages rests.count rests.alike;
+  page_size = ap page_size_of (last_is world.maps (length world.history) rests.pages rests.count)
+      ∙ alike_size rests.pages (newest_map world) rests.store rests.world_store rests.alike;
+}
+
+-- A run over an engine that is alone and rests at a world, and that counts no fault, is answered as the run over whole page maps.
+pub rests_answered : (alone free : Type 0) (old : Seen) (maps : Pin → Option PageMap) (acts : List Act) (answers : List Told) (new : Seen)
+    (world : World) → alone → AreInRange acts → RestsAt old world → (Rose old.faults new.faults → ⊥) → MindNoLogs old acts answers
+    → Plays alone free old maps [] acts answers new → answers ≡ answers_to world acts
+unfolding resting
+rests_answered alone free old maps acts answers new world here range rests quiet minds plays =
+    let newest = last_is world.maps (length world.history) rests.pages rests.count in
+    let s = page_size_of rests.pages in
+    plays_answered alone free old maps [] acts answers new (resting world rests.pages) here range (rests_stand old maps world rests)
+    (λ k d within. absurd (omega arith)) quiet minds plays
+    ∙ answers_alike s (resting world rests.pages) world acts range
+    (out_may s (resting world rests.pages) (count_last world.maps (length world.history) rests.pages rests.count)
+    (subst (IsStore s) (sym newest) (record { store = rests.store; size = refl })) rests.out) (rests_alike old world rests)
+
+-- An engine to which nothing was committed yet rests at the world over any page store with its pages 2 to 16.
+pub rests_over : (seen : Seen) (own pages : PageMap) → seen.history ≡ [] → seen.newest ≡ Some own → seen.size ≡ 16
+    → seen.page_size ≡ page_size_of own → seen.stopped ≡ None → IsPageStore own → IsPageStore pages → AreAlike own pages
+    → RestsAt seen (world_over pages)
+rests_over seen own pages history newest size page_size running own_store store alike = record {
+  history = history;
+  count = refl;
+  pages = own;
+  newest = newest;
+  store = own_store;
+  size = size;
+  page_size = page_size;
+  alike = alike;
+  world_store = store;
+  running = running;
+  out = λ session. refl;
+  none_begun = λ session. refl;
+}
+
+-- So does a new engine in memory.
+pub plain_rests : (plain : PlainState) (pages : PageMap) → plain.maps ≡ pages ∷ [] → plain.history ≡ []
+    → plain.page_size ≡ page_size_of pages → IsPageStore pages → RestsAt (plain_seen plain) (world_over pages)
+plain_rests plain pages maps history page_size store =
+    let newest : newest_of plain ≡ pages = rw (maps, history) refl in
+    rests_over (plain_seen plain) pages pages history (ap Some newest) (ap length newest ∙ store.count) page_size refl store store
+    (λ page low high. refl)
+
+-- Two engines that are alone and rest at one world are answered alike, whatever each keeps beside it.
+pub same_answers : (alone free alone_too free_too : Type 0) (one other : Seen) (maps maps_too : Pin → Option PageMap) (acts : List Act)
+    (answers answers_too : List Told) (one_then other_then : Seen) (world : World) → alone → alone_too → AreInRange acts
+    → RestsAt one world → RestsAt other world → (Rose one.faults one_then.faults → ⊥) → (Rose other.faults other_then.faults → ⊥)
+    → MindNoLogs one acts answers → MindNoLogs other acts answers_too
+    → Plays alone free one maps [] acts answers one_then → Plays alone_too free_too other maps_too [] acts answers_too other_then
+    → answers ≡ answers_too
+same_answers alone free alone_too free_too one other maps maps_too acts answers answers_too one_then other_then world here here_too range
+    rests rests_too quiet quiet_too minds minds_too plays plays_too =
+    rests_answered alone free one maps acts answers one_then world here range rests quiet minds plays
+    ∙ sym (rests_answered alone_too free_too other maps_too acts answers_too other_then world here_too range rests_too quiet_too minds_too plays_too)

@@ -1,0 +1,192 @@
+-- What COMMIT does over an engine is what it does to the world.
+use Rattle.std.proofs.Common.{◌≡◌, ◌∙◌, ℕ, ◌+◌, Bool, true, false, cond, List, [], ◌∷◌, ◌++◌, length, refl, sym, ap, subst, inl, inr, arith, get_or}
+use Rattle.std.specs.Prelude.{Option, Some, None}
+use Rattle.disk_face.specs.Faults.{Rose}
+use Rattle.page_spec.specs.PageMap.{PageMap}
+use Rattle.run_spec.specs.declared.pins.Pin.{Pin}
+use Rattle.run_spec.specs.declared.commits.Commit.{Commit}
+use Rattle.run_spec.specs.declared.commits.Mode.TheVariants.{Concurrent}
+use Rattle.run_spec.specs.declared.commits.Receipt.{Receipt}
+use Rattle.run_spec.specs.declared.commits.Receipt.TheVariants.{At, ReadOnly}
+use Rattle.run_spec.specs.declared.commits.CommitFault.TheVariants as fault
+use Rattle.run_spec.specs.declared.lines.Act.TheVariants as act
+use Rattle.run_spec.specs.declared.lines.Told.{Told}
+use Rattle.run_spec.specs.declared.lines.Told.TheVariants as reply
+use Rattle.run_spec.specs.Change.{laid}
+use Rattle.run_spec.specs.History.{conflict}
+use Rattle.run_spec.specs.Seen.{Seen, Submitted, Ends, Accepts, Refuses, commit_of}
+use Rattle.run_spec.specs.World.{World, SessionState, Outcome, changed_at, map_number, newest_map, step, begin_step, read_step, write_step, commit_step, rollback_step, commit, committed, moved, decided, change_of, submitted}
+use Rattle.run_spec.specs.World as run
+use Rattle.run_spec.proofs.Conflicts.{conflict_none, conflict_is}
+use Rattle.acts.specs.declared.seats.Seat.{Seat}
+use Rattle.acts.specs.declared.seats.State.{State}
+use Rattle.acts.specs.declared.seats.State.TheVariants as seat
+use Rattle.acts.specs.declared.seats.Transaction.{Transaction}
+use Rattle.acts.specs.Pagers.{Between, CommitOpen, CommitActs, IsSoundTransaction, IsSoundState, state_of, begun_of, with_seat, submitted_of}
+use Rattle.acts.specs.InMemory.{TellsOf, PinStands, IsTransaction, Matches}
+use Rattle.acts.proofs.SeatLaws.{sound_at}
+use Rattle.acts.proofs.Telling.{extends_same, extends_push, tells_more, not_over}
+use Rattle.acts.proofs.Standing.{Stands, Leads, MindsNoLogs, turn, tells_same, rests, pin_stays, tells_ended}
+
+-- what a transaction hands in is what the world commits
+submits : (seats : List Seat) (world : World) (s : ℕ) (held : Transaction) (transaction : run.Transaction)
+    (map_before : Pin → Option PageMap) → IsTransaction held transaction → PinStands map_before world.maps held.pin
+    → world.begun s ≡ begun_of seats s → submitted_of seats s held ≡ submitted world s transaction
+submits seats world s held transaction map_before same pin begun =
+    let base : held.pin.size ≡ length (map_number world transaction.snap) =
+    pin.size ∙ ap (λ (n : ℕ). length (get_or world.maps n [])) (sym same.snap) in
+    let snap = same.snap in
+    let reads = same.reads in
+    let changed = same.changed in
+    let said = same.said in
+    let wrote = same.wrote in
+    cc
+
+-- COMMIT that nothing bars
+commit_is : (world : World) (s : ℕ) (transaction : run.Transaction) → transaction.wrote ≡ true
+    → conflict Concurrent transaction.reads transaction.snap world.history ≡ None
+    → commit world s transaction ≡ committed world s transaction
+commit_is world s transaction wrote none =
+    ap (λ (test : Bool). cond test
+    (decided world s transaction (conflict Concurrent transaction.reads transaction.snap world.history))
+    (moved world s run.Out (reply.Done (ReadOnly transaction.snap)))) wrote
+    ∙ ap (decided world s transaction) none
+
+-- COMMIT that a later commit bars
+busy_is : (world : World) (s : ℕ) (transaction : run.Transaction) (page number : ℕ) → transaction.wrote ≡ true
+    → conflict Concurrent transaction.reads transaction.snap world.history ≡ Some (page, number)
+    → commit world s transaction ≡ moved world s (run.Refused transaction) (reply.Busy page number)
+busy_is world s transaction page number wrote found =
+    ap (λ (test : Bool). cond test
+    (decided world s transaction (conflict Concurrent transaction.reads transaction.snap world.history))
+    (moved world s run.Out (reply.Done (ReadOnly transaction.snap)))) wrote
+    ∙ ap (decided world s transaction) found
+
+-- COMMIT of a transaction that wrote nothing
+read_only_is : (world : World) (s : ℕ) (transaction : run.Transaction) → transaction.wrote ≡ false
+    → commit world s transaction ≡ moved world s run.Out (reply.Done (ReadOnly transaction.snap))
+read_only_is world s transaction wrote =
+    ap (λ (test : Bool). cond test
+    (decided world s transaction (conflict Concurrent transaction.reads transaction.snap world.history))
+    (moved world s run.Out (reply.Done (ReadOnly transaction.snap)))) wrote
+
+-- a session out of its transaction after COMMIT
+committed_acts : (engine : Between) (seats after : List Seat) (world : World) (s : ℕ) (held : Transaction)
+    (transaction : run.Transaction) (receipt : Receipt) → Stands engine seats after world → state_of seats s ≡ seat.Open held
+    → IsTransaction held transaction → PinStands engine.map_before world.maps held.pin
+    → (done : Seen) → Accepts engine.old (submitted_of seats s held) receipt done → Ends done held.pin engine.new
+    → after ≡ with_seat seats (record { session = s; begun = begun_of seats s; state = seat.Out })
+    → Leads engine after (reply.Done receipt) (commit world s transaction)
+committed_acts engine seats after world s held transaction (ReadOnly n) b is same pin done accepts ends put =
+    let new : Ends engine.old held.pin engine.new = subst (λ (seen : Seen). Ends seen held.pin engine.new) accepts.2 ends in
+    let n_is : n ≡ transaction.snap = accepts.1 ∙ sym same.snap in
+    subst (Leads engine after (reply.Done (ReadOnly n))) (sym (read_only_is world s transaction (same.wrote ∙ accepts.0))) (
+      ap (λ (k : ℕ). reply.Done (ReadOnly k)) n_is,
+      turn engine seats after world (moved world s run.Out (reply.Done (ReadOnly transaction.snap))).world s seat.Out run.Out b put
+          (tells_ended engine seats after world held.pin b new) (extends_same world.maps) tt (λ other. refl) (λ other. refl),
+    )
+committed_acts engine seats after world s held transaction (At number) b is same pin done accepts ends put =
+    let tells = b.stands.tells in
+    let asked : Submitted = submitted_of seats s held in
+    let asked_is : asked ≡ submitted world s transaction =
+    submits seats world s held transaction engine.map_before same pin (b.stands.begun s) in
+    let sound : IsSoundTransaction engine.old.page_size held =
+    subst (IsSoundState engine.old.page_size) is (sound_at engine.old.page_size seats s b.sound) in
+    let free : conflict Concurrent transaction.reads transaction.snap world.history ≡ None =
+    ap (λ (reads : List ℕ). conflict Concurrent reads transaction.snap world.history) same.reads
+    ∙ ap (λ (n : ℕ). conflict Concurrent held.reads n world.history) same.snap
+    ∙ ap (conflict Concurrent held.reads held.pin.n) (sym tells.history_is)
+    ∙ conflict_none Concurrent held.reads held.pin.n engine.old.history accepts.clear.free in
+    let told : TellsOf engine.new (world.maps ++ laid (newest_map world) asked.change ∷ []) (world.history ++ commit_of asked ∷ []) =
+    tells_more engine.old engine.new world.maps world.history asked.change (commit_of asked) refl sound.images
+    (ap (λ (seen : Seen). seen.history) ends ∙ ap (λ (seen : Seen). seen.history) accepts.after_is)
+    (ap (λ (seen : Seen). seen.newest) ends ∙ ap (λ (seen : Seen). seen.newest) accepts.after_is)
+    (ap (λ (seen : Seen). seen.size) ends ∙ ap (λ (seen : Seen). seen.size) accepts.after_is)
+    (ap (λ (seen : Seen). seen.page_size) ends ∙ ap (λ (seen : Seen). seen.page_size) accepts.after_is)
+    (ap (λ (seen : Seen). seen.stopped) ends ∙ ap (λ (seen : Seen). seen.stopped) accepts.after_is)
+    tells in
+    let number_is : number ≡ length world.history + 1 =
+    accepts.number_is ∙ ap (λ (commits : List Commit). length commits + 1) tells.history_is in
+    subst (Leads engine after (reply.Done (At number))) (sym (commit_is world s transaction (same.wrote ∙ accepts.clear.wrote) free)) (
+      ap (λ (k : ℕ). reply.Done (At k)) number_is,
+      turn engine seats after world (committed world s transaction).world s seat.Out run.Out b put
+          (subst (λ (one : Submitted). TellsOf engine.new (world.maps ++ laid (newest_map world) one.change ∷ []) (world.history ++ commit_of one ∷ []))
+          asked_is told)
+          (extends_push world.maps (laid (newest_map world) (change_of world transaction))) tt (λ other. refl) (λ other. refl),
+    )
+
+-- COMMIT of an open transaction
+commit_open : (engine : Between) (seats after : List Seat) (world : World) (s : ℕ) (held : Transaction)
+    (transaction : run.Transaction) (told : Told) → Stands engine seats after world → MindsNoLogs engine.old (act.Commit s) told
+    → state_of seats s ≡ seat.Open held → IsTransaction held transaction → PinStands engine.map_before world.maps held.pin
+    → CommitOpen engine s seats after held told → Leads engine after told (commit world s transaction)
+commit_open engine seats after world s held transaction (reply.Done receipt) b minds is same pin acts =
+    let found = acts.0 in
+    let accepts : Accepts engine.old (submitted_of seats s held) receipt found.2.0 =
+    subst (λ (mid : Seen). Accepts mid (submitted_of seats s held) receipt found.2.0) (found.1.nobody b.alone) found.2.1 in
+    committed_acts engine seats after world s held transaction receipt b is same pin found.2.0 accepts found.2.2 acts.1
+commit_open engine seats after world s held transaction (reply.Busy page number) b minds is same pin acts =
+    let found = acts.0 in
+    let tells = b.stands.tells in
+    let refuses : Refuses engine.old (submitted_of seats s held) (fault.BusySnapshot page number) engine.new =
+    subst (λ (mid : Seen). Refuses mid (submitted_of seats s held) (fault.BusySnapshot page number) engine.new) (found.1.nobody b.alone) found.2 in
+    let bars : conflict Concurrent transaction.reads transaction.snap world.history ≡ Some (page, number) =
+    ap (λ (reads : List ℕ). conflict Concurrent reads transaction.snap world.history) same.reads
+    ∙ ap (λ (n : ℕ). conflict Concurrent held.reads n world.history) same.snap
+    ∙ ap (conflict Concurrent held.reads held.pin.n) (sym tells.history_is)
+    ∙ conflict_is Concurrent held.reads held.pin.n engine.old.history page number refuses.2 in
+    subst (Leads engine after (reply.Busy page number)) (sym (busy_is world s transaction page number (same.wrote ∙ refuses.0) bars)) (
+      refl,
+      turn engine seats after world (moved world s (run.Refused transaction) (reply.Busy page number)).world s
+          (seat.Refused held.pin) (run.Refused transaction) b acts.1
+          (tells_same engine seats after world b refuses.3) (extends_same world.maps) (
+            same.snap,
+            pin_stays engine seats after world s (seat.Refused held.pin) (seat.Open held) held.pin b is acts.1
+                (0, omega arith, refl) (0, omega arith, refl) pin,
+          )
+          (λ other. refl) (λ other. refl),
+    )
+commit_open engine seats after world s held transaction reply.Disk b minds is same pin acts =
+    let found = acts.0 in
+    absurd (b.quiet (subst (λ (mid : Seen). Rose mid.faults engine.new.faults) (found.1.nobody b.alone) found.2.1))
+commit_open engine seats after world s held transaction (reply.Stopped log at) b minds is same pin acts =
+    let found = acts.0 in
+    let stop = found.2.1 in
+    let none : found.0.stopped ≡ None = ap (λ (seen : Seen). seen.stopped) (found.1.nobody b.alone) ∙ b.stands.tells.running in
+    let some : found.0.stopped ≡ Some stop.0 = stop.1 in
+    absurd cc
+commit_open engine seats after world s held transaction (reply.Size pages) b minds is same pin acts =
+    let found = acts.0.1 in
+    let sound : IsSoundTransaction engine.old.page_size held =
+    subst (IsSoundState engine.old.page_size) is (sound_at engine.old.page_size seats s b.sound) in
+    let refuses : Refuses engine.old (submitted_of seats s held) (fault.SizeLimit pages acts.0.0) engine.new =
+    subst (λ (mid : Seen). Refuses mid (submitted_of seats s held) (fault.SizeLimit pages acts.0.0) engine.new) (found.1.nobody b.alone) found.2 in
+    elim minds [
+      | inl none ↦
+          absurd (not_over engine.old world.maps world.history (submitted_of seats s held).change b.stands.tells none refl refl sound.images refuses.3)
+      | inr never ↦ absurd never.1
+    ]
+commit_open engine seats after world s held transaction reply.Ok b minds is same pin acts = absurd acts
+commit_open engine seats after world s held transaction (reply.Byte byte) b minds is same pin acts = absurd acts
+commit_open engine seats after world s held transaction reply.InTransaction b minds is same pin acts = absurd acts
+commit_open engine seats after world s held transaction reply.NoTransaction b minds is same pin acts = absurd acts
+commit_open engine seats after world s held transaction reply.MustRollBack b minds is same pin acts = absurd acts
+commit_open engine seats after world s held transaction (reply.Ckpt answer) b minds is same pin acts = absurd acts
+commit_open engine seats after world s held transaction (reply.Logs logs) b minds is same pin acts = absurd acts
+
+-- COMMIT
+pub commit_acts : (engine : Between) (seats after : List Seat) (world : World) (s : ℕ) (told : Told) (state : State) (session : SessionState)
+    → Stands engine seats after world → MindsNoLogs engine.old (act.Commit s) told → state_of seats s ≡ state
+    → Matches engine.map_before world.maps state session → CommitActs engine s seats after told state → Leads engine after told (commit_step world s session)
+commit_acts engine seats after world s told seat.Out run.Out b minds is matches acts =
+    rests engine seats after world reply.NoTransaction told b acts
+commit_acts engine seats after world s told (seat.Open held) (run.Open transaction) b minds is matches acts =
+    commit_open engine seats after world s held transaction told b minds is matches.0 matches.1 acts
+commit_acts engine seats after world s told (seat.Refused pin) (run.Refused transaction) b minds is matches acts =
+    rests engine seats after world reply.MustRollBack told b acts
+commit_acts engine seats after world s told seat.Out (run.Open transaction) b minds is matches acts = absurd matches
+commit_acts engine seats after world s told seat.Out (run.Refused transaction) b minds is matches acts = absurd matches
+commit_acts engine seats after world s told (seat.Open held) run.Out b minds is matches acts = absurd matches
+commit_acts engine seats after world s told (seat.Open held) (run.Refused transaction) b minds is matches acts = absurd matches
+commit_acts engine seats after world s told (seat.Refused pin) run.Out b minds is matches acts = absurd matches
+commit_acts engine seats after world s told (seat.Refused pin) (run.Open transaction) b minds is matches acts = absurd matches
