@@ -5,8 +5,6 @@
 #![tactic(auto)]
 
 mod fields;
-#[cfg(test)]
-mod tests;
 mod varint;
 
 pub use fields::{get_u16, get_u32, put_u16, put_u32};

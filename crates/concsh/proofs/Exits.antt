@@ -19,7 +19,7 @@ use Rattle.script.proofs.Lines.{concat-raw_lines}
 use Rattle.concsh.specs.declared.lines.Next.{Next}
 use Rattle.concsh.specs.declared.lines.Next.TheVariants as next
 use Rattle.acts.specs.InMemory.{Memory, IsAt}
-use Rattle.acts.specs.Pagers.{IsInRange}
+use Rattle.run_spec.specs.Range.{IsInRange}
 use Rattle.concsh.specs.Reading.{Reading, script_left, WhereTold, Advances}
 use Rattle.concsh.specs.Outcome.{act_in, acts_in, replies, line_in, lines_run, is_refused, refused_text, text_of, status_of, source_failed, cut_text, PutsFront, IsCut, Ran}
 use Rattle.concsh.proofs.Written.{Puts-more}
@@ -204,18 +204,6 @@ cut_there (Some script) left left' before mid now number status old new memory s
           (Ran_4_cut script left' before now count cut
           (PutsFront-after before mid now done source_failed [] (cut_text script count) s.written four.1 (append-nil (done ++ source_failed) ∙ sym text)))
     ]
-
--- the acts of a line that is in the grammar are in range
-pub in_range : (said : Line) (text : List ℕ) → Spells Pages said text → IfSome (act_in said) IsInRange
-in_range line.Empty text spelled = tt
-in_range (line.Page (page.Begin session)) text spelled = tt
-in_range (line.Page (page.Read session number)) text spelled = spelled.0.1
-in_range (line.Page (page.Write session number byte)) text spelled = spelled.0.1
-in_range (line.Page (page.Commit session)) text spelled = tt
-in_range (line.Page (page.Rollback session)) text spelled = tt
-in_range line.Copy text spelled = tt
-in_range line.Step text spelled = tt
-in_range line.Logs text spelled = tt
 
 -- a front of the reply to the next line was written
 pub front_there : (from left left' before mid now : Option (List ℕ)) (number : ℕ) (old new : Reading) (memory : Memory) (given text : List ℕ) (said : Line) (P : List ℕ → Type 0) → IfSome from (λ script. Standing script number old.passed (script_left old left) before mid memory) → WhereTold (script_left old left) (script_left new left') (Advances next.Line old new) → given ≡ new.line → text ≡ text_of_raw given → Some said ≡ line_of Pages text → ((world : World) → IsAt memory world → PutsFront mid (replies world (acts_in said)) now) → ((script : List ℕ) → PutsFront before (text_of script) now → P script) → IfSome from P

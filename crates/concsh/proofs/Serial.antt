@@ -4,7 +4,8 @@ use Rattle.std.specs.List.{filter_map, cons_option}
 use Rattle.std.proofs.lemmas.List.Elements.{All-cons, All-nil, All-take}
 use Rattle.std.proofs.lemmas.Option.{none-some}
 use Rattle.run_spec.specs.declared.lines.Act.{Act}
-use Rattle.run_spec.specs.Serial.{IsInRange, AreInRange, IsSerialFrom}
+use Rattle.run_spec.specs.Range.{IsInRange, AreInRange}
+use Rattle.run_spec.specs.Serial.{IsSerialFrom}
 use Rattle.run_spec.specs.World.{zeros, start, after}
 use Rattle.run_spec.proofs.SerialLaw.{serial_from_start}
 use Rattle.script.specs.declared.grammar.Act2.TheVariants as page
@@ -22,7 +23,7 @@ pub spelled_in_range : (said : Line) (text : List ℕ) → Spells Pages said tex
 spelled_in_range line.Empty text spelled = tt
 spelled_in_range (line.Page (page.Begin session)) text spelled = tt
 spelled_in_range (line.Page (page.Read session number)) text spelled = spelled.0.1
-spelled_in_range (line.Page (page.Write session number byte)) text spelled = (spelled.0.1.0, spelled.0.1.1, omega (arith, spelled.0.2))
+spelled_in_range (line.Page (page.Write session number byte)) text spelled = spelled.0.1
 spelled_in_range (line.Page (page.Commit session)) text spelled = tt
 spelled_in_range (line.Page (page.Rollback session)) text spelled = tt
 spelled_in_range line.Copy text spelled = tt

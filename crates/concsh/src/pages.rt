@@ -5,7 +5,7 @@ ghost use Rattle.disk_face.specs.Sink.{Puts};
 ghost use Rattle.run_spec.specs.Reply.{reply_text, session_of};
 ghost use Rattle.run_spec.specs.World.{World, step, after};
 ghost use Rattle.acts.specs.InMemory.{IsAt};
-ghost use Rattle.acts.specs.Pagers.{IsInRange};
+ghost use Rattle.run_spec.specs.Range.{IsInRange};
 ghost use Rattle.concsh.specs.Outcome.{act_in, acts_in, page_act, replies, refused_text, source_failed, PutsFront, Ran};
 
 use crate::lines::{LineReader, Next};

@@ -7,8 +7,6 @@
 mod fault;
 mod header;
 mod read;
-#[cfg(test)]
-mod tests;
 mod write;
 
 pub use fault::HeaderFault;

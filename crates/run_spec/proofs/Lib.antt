@@ -7,4 +7,5 @@ pub mod Alone
 pub mod OneMore
 pub mod Ordinals
 pub mod SerialLaw
+pub mod GoingOn
 pub mod AlikeLaw

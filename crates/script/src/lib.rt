@@ -9,6 +9,3 @@ mod raw;
 
 pub use grammar::{Act2, Form, Line, read_line};
 pub use raw::line_text;
-
-#[cfg(test)]
-mod tests;

@@ -3,7 +3,8 @@ use Rattle.concsh.specs.declared.lines.Next.TheVariants as next
 use Rattle.concsh.specs.Reading.{script_left}
 use Rattle.run_spec.specs.World.{start, after}
 use Rattle.concsh.specs.Outcome.{acts_in, Ran}
-use Rattle.concsh.proofs.Exits.{status_4, status_7, status_said, status_cut, started, ended, past_limit, not_in_grammar, cut_there, in_range, front_there, goes_on, as_next, Ran_4, Ran_7}
+use Rattle.concsh.proofs.Serial.{spelled_in_range}
+use Rattle.concsh.proofs.Exits.{status_4, status_7, status_said, status_cut, started, ended, past_limit, not_in_grammar, cut_there, front_there, goes_on, as_next, Ran_4, Ran_7}
 use Rattle.concsh.proofs.pages.run_pages.Goals as goal
 
 pub lines-init : goal.lines-init
@@ -44,7 +45,7 @@ returns-in_default-read_line-clause-script g c =
     not_in_grammar (g.S.Source.left c.args.src.now) (g.S.Source.left c.lines.src) (g.S.Source.left c.advance.new.src) (g.K.Sink.written c.args.out.now) (g.K.Sink.written c.lines.out) (g.K.Sink.written c.say_refused-in_default-read_line.new.out) c.lines.number c.say_refused-in_default-read_line.result c.lines.lines c.advance.new.self c.lines.memory c.line.result.now c.line_text.result.now c.lines.invariant.standing (as_next c.in-Ok-Line.field-0 next.Line c.in-Ok-Line.field-0-is (script_left c.lines.lines (g.S.Source.left c.lines.src)) (script_left c.advance.new.self (g.S.Source.left c.advance.new.src)) c.lines.lines c.advance.new.self c.in-Ok-Line.ensures.next) c.line.ensures c.line_text.ensures c.in_default-read_line.ensures.meaning c.say_refused-in_default-read_line.ensures.said
 
 pub run_line-requires-clause-range : goal.run_line-requires-clause-range
-run_line-requires-clause-range g c = in_range c.in-Some.line c.line_text.result.now c.in-Some.ensures.spelled
+run_line-requires-clause-range g c = spelled_in_range c.in-Some.line c.line_text.result.now c.in-Some.ensures.spelled
 
 pub returns-in-Err-Sink-clause-statuses : goal.returns-in-Err-Sink-clause-statuses
 returns-in-Err-Sink-clause-statuses g c = status_4

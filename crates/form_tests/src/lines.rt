@@ -1,4 +1,4 @@
-use crate::{Act2, Form, Line, line_text, read_line};
+use script::{Act2, Form, Line, line_text, read_line};
 use std::test::Fail;
 
 #[test]

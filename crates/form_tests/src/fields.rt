@@ -1,4 +1,4 @@
-use crate::{get_u16, get_u32, get_varint, put_u16, put_u32, put_varint};
+use be_fields::{get_u16, get_u32, get_varint, put_u16, put_u32, put_varint};
 use std::test::Fail;
 
 #[test]

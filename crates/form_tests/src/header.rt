@@ -1,4 +1,4 @@
-use crate::{Header, HeaderFault, read_header, write_header};
+use db_header::{Header, HeaderFault, read_header, write_header};
 use std::test::Fail;
 
 /// The first 100 bytes of the file that sqlite3 3.40.1 makes of
