@@ -1,5 +1,5 @@
 -- The store in memory: its start, and its acts.
-use Rattle.std.proofs.Common.{◌≡◌, ◌∙◌, ℕ, ◌+◌, ◌≤◌, List, [], ◌∷◌, ◌++◌, length, refl, sym, ap, subst, arith, append-nil}
+use Rattle.std.proofs.Common.{◌≡◌, ◌∙◌, ℕ, ◌≤◌, List, [], ◌∷◌, ◌++◌, length, refl, sym, ap, subst, arith, append-nil}
 use Rattle.std.specs.Prelude.{Some, Contains, slice_get}
 use Rattle.page_spec.specs.PageMap.{PageMap, page_size_of}
 use Rattle.run_spec.specs.declared.pins.Pin.{Pin}
