@@ -1,5 +1,7 @@
 // A store of pages in memory with its sessions.
-ghost use Rattle.std.specs.Prelude.{◌≡◌, IfOk, OnErr};
+ghost use Rattle.std.specs.Prelude.{◌≡◌, ◌≤◌, [], ◌∷◌, length, IfOk, OnErr};
+ghost use Rattle.page_spec.specs.PageMap.{page_size_of};
+ghost use Rattle.memory_engine.specs.Plain.{PlainLive, newest_of};
 ghost use Rattle.run_spec.specs.World.{World, zeros, start, step};
 ghost use Rattle.run_spec.specs.Range.{IsInRange};
 ghost use Rattle.acts.specs.InMemory.{Memory, IsAt};
@@ -32,8 +34,7 @@ impl InMemory {
     pub fn new(alloc: Global) -> Result<InMemory, AllocError>
         ensures { IfOk result (λ memory. IsAt memory start) }
     {
-        let pages = zero_pages(alloc)?;
-        let plain = Plain::new(alloc, pages)?;
+        let plain = engine_of_zeros(alloc)?;
         Ok(InMemory {
             plain,
             pagers: Pagers::new(alloc),
@@ -51,6 +52,19 @@ impl InMemory {
     {
         self.pagers.act(&mut self.plain, act)
     }
+}
+
+/// The engine of a new store. The error is want of memory.
+pub fn engine_of_zeros(alloc: Global) -> Result<Plain<Raw>, AllocError>
+    ensures maps { IfOk result (λ plain. plain.maps ≡ zeros ∷ []) }
+    ensures history { IfOk result (λ plain. plain.history ≡ []) }
+    ensures page_size { IfOk result (λ plain. plain.page_size ≡ page_size_of zeros) }
+    ensures pages { IfOk result (λ plain. 16 ≤ length (newest_of plain)) }
+    ensures live { IfOk result (λ plain. PlainLive plain []) }
+{
+    let pages = zero_pages(alloc)?;
+    let plain = Plain::new(alloc, pages)?;
+    Ok(plain)
 }
 
 // How many pages a store has.

@@ -1,14 +1,12 @@
 -- What a commit of the engine in memory tells, and what it keeps.
-use Rattle.std.proofs.Common.{◌≡◌, ◌∙◌, ℕ, ◌+◌, ◌-◌, ◌*◌, ◌^◌, ◌<◌, ◌≤◌, List, [], ◌∷◌, ◌++◌, length, take, drop, refl, sym, ap, subst, inl, inr, arith, All, Contains, get_or, length-append, length-drop, add-one, add-zero, append-nil, Result, Ok, Err, true, false}
-use Rattle.std.specs.Prelude.{slice_get, Option, Some, None, suc, zero, IfSome, IfOk, IfErr, MatchResult}
-use Rattle.std.specs.Option.{option_map}
-use Rattle.std.specs.List.{flat_map}
+use Rattle.std.proofs.Common.{◌≡◌, ◌∙◌, ℕ, ◌+◌, ◌*◌, ◌^◌, ◌<◌, ◌≤◌, List, [], ◌∷◌, ◌++◌, length, take, drop, refl, sym, ap, subst, inl, inr, arith, Contains, get_or, length-append, length-drop, add-one, add-zero, append-nil, Result, Ok, Err, true, false}
+use Rattle.std.specs.Prelude.{slice_get, Option, Some, suc, IfSome, IfOk, IfErr, MatchResult}
 use Rattle.std.proofs.lemmas.Bool.{false≢true, cases_lt}
 use Rattle.std.proofs.lemmas.Option.{slice_get-get_or, get_or_from_slice_get}
 use Rattle.std.proofs.lemmas.List.{get_or_append_left, get_or-drop, take-append-le, take_all}
 use Rattle.std.proofs.Math.Seq.{get_or-append_seam}
 use Rattle.std.proofs.lemmas.Grind.{flat_map-append}
-use Rattle.page_spec.specs.PageMap.{PageMap, Agree, page_size_of}
+use Rattle.page_spec.specs.PageMap.{PageMap, page_size_of}
 use Rattle.run_spec.specs.declared.pins.Pin.{Pin}
 use Rattle.run_spec.specs.declared.commits.Commit.{Commit}
 use Rattle.run_spec.specs.declared.commits.Mode.{Mode}
@@ -18,10 +16,10 @@ use Rattle.run_spec.specs.declared.commits.Receipt.{Receipt}
 use Rattle.run_spec.specs.declared.commits.Receipt.TheVariants.{At}
 use Rattle.run_spec.specs.declared.commits.CommitFault.{CommitFault}
 use Rattle.run_spec.specs.declared.commits.CommitFault.TheVariants as fault
-use Rattle.run_spec.specs.Change.{Change, laid}
-use Rattle.run_spec.specs.History.{counts, is_written, NoConflict, statements_of, SnapsBefore}
-use Rattle.run_spec.specs.Seen.{Seen, Submitted, Found, Accepts, Refuses, IsCommitted, commit_of, IsClear, pages_after}
-use Rattle.run_spec.specs.Good.{Good, MayLayOn, HasSizes}
+use Rattle.run_spec.specs.Change.{laid}
+use Rattle.run_spec.specs.History.{counts, NoConflict, statements_of, SnapsBefore}
+use Rattle.run_spec.specs.Seen.{Submitted, Found, Accepts, Refuses, IsCommitted, commit_of, IsClear, pages_after}
+use Rattle.run_spec.specs.Good.{MayLayOn}
 use Rattle.run_spec.proofs.Laying.{laid-length, page_at-length}
 use Rattle.page_face.specs.declared.prepared.Prepared.{Prepared}
 use Rattle.page_face.specs.Prepared.{submitted, change_in, IsFit, IsGood}

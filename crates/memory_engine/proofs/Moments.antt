@@ -1,5 +1,5 @@
 -- Nothing changed meanwhile.
-use Rattle.std.proofs.Common.{◌≡◌, ◌≤◌, List, [], ◌∷◌, ◌++◌, refl, sym, append-nil, arith, Option, Some, None}
+use Rattle.std.proofs.Common.{[], refl, sym, append-nil, arith, Option, Some, None}
 use Rattle.run_spec.specs.Seen.{Seen, Stop, Later, Found, KeepsStop}
 
 -- a place that is there stays

@@ -1,21 +1,21 @@
 -- Commits of the engine in memory.
-use Rattle.std.proofs.Common.{◌≡◌, ◌∙◌, ℕ, ◌+◌, ◌-◌, ◌*◌, ◌^◌, ◌<◌, ◌≤◌, ◌⊎◌, ◌||◌, Bool, true, false, List, [], ◌∷◌, ◌++◌, length, take, drop, refl, sym, ap, subst, inl, inr, arith, All, Contains, get_or, length-append, length-drop, add-one, add-zero}
-use Rattle.std.specs.Prelude.{slice_get, Option, Some, None, suc, zero}
+use Rattle.std.proofs.Common.{◌≡◌, ◌∙◌, ℕ, ◌+◌, ◌-◌, ◌*◌, ◌^◌, ◌<◌, ◌≤◌, ◌⊎◌, true, false, List, [], ◌∷◌, ◌++◌, length, drop, refl, sym, ap, subst, inl, inr, arith, All, Contains, get_or, length-append, length-drop, add-zero}
+use Rattle.std.specs.Prelude.{slice_get, Some, None, suc, zero}
 use Rattle.std.specs.List.{list_any}
 use Rattle.std.proofs.lemmas.Bool.{or_parts, cases_lt}
 use Rattle.std.proofs.lemmas.Option.{slice_get-get_or, get_or_from_slice_get, slice_get_cases}
-use Rattle.std.proofs.lemmas.List.{get_or_append_left, get_or-drop, take-append-le}
+use Rattle.std.proofs.lemmas.List.{get_or_append_left, get_or-drop}
 use Rattle.std.proofs.lemmas.List.Elements.{All-append, All-cons}
 use Rattle.std.proofs.Math.Seq.{get_or-append_seam}
-use Rattle.page_spec.specs.PageMap.{PageMap, Agree, page_sizes}
+use Rattle.page_spec.specs.PageMap.{PageMap, Agree}
 use Rattle.run_spec.specs.declared.pins.Pin.{Pin}
 use Rattle.run_spec.specs.declared.commits.Commit.{Commit}
 use Rattle.run_spec.specs.declared.commits.Mode.{Mode}
-use Rattle.run_spec.specs.declared.commits.Mode.TheVariants.{Plain, Concurrent}
+use Rattle.run_spec.specs.declared.commits.Mode.TheVariants.{Concurrent}
 use Rattle.run_spec.specs.declared.commits.Who.{Who}
-use Rattle.run_spec.specs.Change.{Change, laid}
-use Rattle.run_spec.specs.History.{counts, is_written, conflict, NoConflict, IsConflict}
-use Rattle.run_spec.specs.Seen.{Seen, Submitted, commit_of, written, IsClear, Fits, pages_after, frames_after}
+use Rattle.run_spec.specs.Change.{laid}
+use Rattle.run_spec.specs.History.{counts, is_written, conflict, NoConflict}
+use Rattle.run_spec.specs.Seen.{commit_of, written, IsClear, pages_after, frames_after}
 use Rattle.run_spec.specs.Good.{HasSizes}
 use Rattle.run_spec.proofs.Laying.{agree_refl, agree_trans, agree_laid, laid-length, laid-whole, IsWhole}
 use Rattle.run_spec.proofs.GoodLines.{legal_size}
@@ -23,9 +23,8 @@ use Rattle.run_spec.proofs.Conflicts.{no_conflict}
 use Rattle.page_face.specs.declared.prepared.Prepared.{Prepared}
 use Rattle.page_face.specs.Prepared.{submitted, change_in, IsFit}
 use Rattle.page_face.specs.Pins.{IsLive}
-use Rattle.memory_engine.specs.Plain.{PlainState, IsPlain, Holds, PlainLive, Follows, MayAdd, newest_of, plain_seen, committed_state}
+use Rattle.memory_engine.specs.Plain.{PlainState, IsPlain, PlainLive, Follows, MayAdd, newest_of, plain_seen, committed_state}
 use Rattle.memory_engine.specs.PlainLaws.{held, inside}
-use Rattle.memory_engine.proofs.PlainPins.{same_element}
 
 -- where none of some commits wrote a page, each of them didn't
 pub uncounted_at : (mode : Mode) (page : ℕ) (commits : List Commit) → is_written mode page commits ≡ false

@@ -1,12 +1,12 @@
 -- The pins of the engine in memory.
-use Rattle.std.proofs.Common.{◌≡◌, ◌∙◌, ℕ, ◌+◌, ◌<◌, ◌≤◌, List, [], ◌∷◌, ◌++◌, length, refl, sym, ap, subst, arith, All, get_or, length-append, add-one}
-use Rattle.std.specs.Prelude.{slice_get, Option, Some}
+use Rattle.std.proofs.Common.{◌≡◌, ◌∙◌, ℕ, ◌+◌, ◌<◌, List, [], ◌∷◌, ◌++◌, length, refl, ap, subst, arith, All, get_or, length-append, add-one}
+use Rattle.std.specs.Prelude.{slice_get, Some}
 use Rattle.std.proofs.lemmas.Option.{slice_get-get_or}
 use Rattle.std.proofs.lemmas.List.{get_or-append-add, get_or_append_left}
 use Rattle.std.proofs.lemmas.List.Elements.{All-append, All-cons}
 use Rattle.page_spec.specs.PageMap.{PageMap}
 use Rattle.run_spec.specs.declared.pins.Pin.{Pin}
-use Rattle.page_face.specs.Pins.{IsLive, KeepsPins, AddsPin, TakesPin}
+use Rattle.page_face.specs.Pins.{AddsPin, TakesPin}
 use Rattle.memory_engine.specs.Plain.{PlainState, IsPlain, Holds, PlainLive, newest_of}
 
 -- what holds of a joined list holds of its front

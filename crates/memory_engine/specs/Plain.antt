@@ -1,9 +1,8 @@
 -- The engine in memory: its page maps, one for each commit and the first, and its history.
-use Rattle.std.specs.Prelude.{◌≡◌, ℕ, ◌+◌, ◌^◌, ◌<◌, ◌≤◌, Bool, true, false, List, [], ◌∷◌, ◌++◌, length, take, Contains, Option, Some, None, All, slice_get, suc, zero}
+use Rattle.std.specs.Prelude.{◌≡◌, ℕ, ◌+◌, ◌-◌, ◌^◌, ◌<◌, ◌≤◌, true, false, if◌then◌else◌, nat_lt, List, [], ◌∷◌, ◌++◌, length, take, Contains, Some, None, All, slice_get, slice_index, suc, zero}
 use Rattle.std.specs.List.{slice_index_or}
 use Rattle.page_spec.specs.PageMap.{PageMap, Agree, page_sizes}
 use Rattle.run_spec.specs.declared.pins.Pin.{Pin}
-use Rattle.run_spec.specs.declared.pins.Lock.TheVariants.{Part1}
 use Rattle.run_spec.specs.declared.commits.Commit.{Commit}
 use Rattle.run_spec.specs.declared.commits.Mode.TheVariants as mode
 use Rattle.run_spec.specs.History.{counts, statements_of, SnapsBefore}
@@ -19,6 +18,12 @@ pub record PlainState : Type 0 where
   pub usable : ℕ
   pub maps : List PageMap
   pub history : List Commit
+
+-- how many bytes of a page are in use, by the first page: all but the reserved ones, which its byte 20 counts, or all where that
+-- leaves too few
+abbrev pub usable_by : List ℕ → ℕ
+usable_by first =
+    if nat_lt (length first - slice_index first 20) 480 then length first else length first - slice_index first 20
 
 -- the newest map
 abbrev pub newest_of : PlainState → PageMap

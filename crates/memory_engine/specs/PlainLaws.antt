@@ -1,6 +1,6 @@
 -- Laws of the engine in memory.
-use Rattle.std.specs.Prelude.{◌≡◌, ℕ, ◌+◌, ◌<◌, ◌≤◌, List, [], length, take, Contains, Option, Some, None, IsSome, All, slice_get}
-use Rattle.std.proofs.Common.{subst, sym, ap, arith, get_or, refl, inl, inr, ◌∙◌}
+use Rattle.std.specs.Prelude.{◌≡◌, ℕ, ◌<◌, ◌≤◌, List, [], length, take, Option, Some, None, IsSome, slice_get}
+use Rattle.std.proofs.Common.{subst, sym, ap, arith, refl, inl, inr, ◌∙◌}
 use Rattle.std.proofs.lemmas.Option.{get_or_from_slice_get, slice_get-get_or, slice_get_cases}
 use Rattle.std.proofs.lemmas.List.{take_all}
 use Rattle.page_spec.specs.PageMap.{PageMap}

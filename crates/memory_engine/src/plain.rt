@@ -1,5 +1,5 @@
 // An engine that keeps each of its page maps in memory.
-ghost use Rattle.std.specs.Prelude.{◌≡◌, ℕ, ◌+◌, ◌-◌, ◌^◌, ◌<◌, ◌≤◌, List, [], ◌∷◌, ◌++◌, length, IfOk, OnOk, OnErr, IfErr, IfSome, MatchOption, true, false, ◌*◌, ◌⊎◌, vec_len, All, Contains, slice_index, nat_lt, if◌then◌else◌, map, MatchResult};
+ghost use Rattle.std.specs.Prelude.{◌≡◌, ℕ, ◌+◌, ◌^◌, ◌<◌, ◌≤◌, List, [], ◌∷◌, ◌++◌, length, IfOk, OnOk, OnErr, IfErr, IfSome, MatchOption, true, false, ◌*◌, ◌⊎◌, vec_len, All, Contains, map, MatchResult};
 ghost use Rattle.page_spec.specs.PageMap.{PageMap, page_at, page_size_of, page_sizes};
 ghost use Rattle.run_spec.specs.Good.{HasSizes};
 ghost use Rattle.std.specs.Vec.{vec_capacity};
@@ -7,7 +7,7 @@ ghost use Rattle.run_spec.specs.Change.{laid};
 ghost use Rattle.run_spec.specs.Seen.{Found, Accepts, Refuses, IsClear};
 ghost use Rattle.page_face.specs.Pins.{IsLive, KeepsPins};
 ghost use Rattle.page_face.specs.Prepared.{submitted, change_in, IsFit, IsGood};
-ghost use Rattle.memory_engine.specs.Plain.{plain_seen, newest_of, committed_state, MayAdd};
+ghost use Rattle.memory_engine.specs.Plain.{plain_seen, newest_of, usable_by, committed_state, MayAdd};
 
 use crate::conflict::find_conflict;
 use crate::lay::{lay, written_pages};
@@ -55,6 +55,7 @@ impl<M: Means> Plain<M> {
         ensures maps { IfOk result (λ plain. plain.maps ≡ pages.items ∷ []) }
         ensures history { IfOk result (λ plain. plain.history ≡ []) }
         ensures page_size { IfOk result (λ plain. plain.page_size ≡ page_size_of pages.items) }
+        ensures usable { IfOk result (λ plain. plain.usable ≡ usable_by (page_at pages.items 1)) }
         ensures live { IfOk result (λ plain. PlainLive plain []) }
         ensures runs { IfOk result (λ plain. M.sound pages.items pages.items
             → PlainRuns (M.sound pages.items) (M.leads pages.items) pages.items plain) }
@@ -198,7 +199,7 @@ fn usable_of(first: &[u8]) -> usize
     requires legal { Contains page_sizes (length first.now) }
     ensures least { 480 ≤ result }
     ensures most { result ≤ length first.now }
-    ensures value { result ≡ (if nat_lt (length first.now - slice_index first.now 20) 480 then length first.now else length first.now - slice_index first.now 20) }
+    ensures value { result ≡ usable_by first.now }
 {
     let usable = first.len() - first[20] as usize;
     if usable < 480 { first.len() } else { usable }

@@ -1,4 +1,4 @@
-use Rattle.std.proofs.Common.{ℕ, ◌≡◌, ◌+◌, ◌≤◌, length, take, drop, arith, length-drop, length-append, length-take, ap}
+use Rattle.std.proofs.Common.{ℕ, length, arith, length-drop, length-append, length-take, ap}
 use Rattle.memory_engine.proofs.lay.first_page_bytes.Goals as goal
 
 pub slice_bounds-from_slice-end : goal.slice_bounds-from_slice-end

@@ -1,6 +1,5 @@
-use Rattle.std.proofs.Common.{◌≡◌, ◌∙◌, ℕ, ◌+◌, ◌*◌, ◌^◌, ◌<◌, ◌≤◌, ◌⊎◌, length, refl, sym, ap, subst, inl, inr, arith, get_or, Some, None}
+use Rattle.std.proofs.Common.{◌≡◌, ◌∙◌, ℕ, ◌+◌, ◌*◌, ◌^◌, ◌≤◌, length, refl, sym, ap, subst, inl, inr, arith, get_or, Some, None}
 use Rattle.run_spec.specs.History.{conflict}
-use Rattle.run_spec.specs.declared.commits.Commit.{Commit}
 use Rattle.run_spec.proofs.Conflicts.{no_conflict, is_conflict}
 use Rattle.memory_engine.specs.Plain.{PlainState, newest_of}
 use Rattle.memory_engine.proofs.PlainPins.{newest_is}

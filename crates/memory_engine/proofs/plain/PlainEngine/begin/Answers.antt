@@ -1,5 +1,4 @@
 use Rattle.std.proofs.Common.{◌≡◌, ◌∙◌, ℕ, ◌<◌, length, refl, ap, subst, sym, arith}
-use Rattle.std.specs.Prelude.{slice_get, Some}
 use Rattle.std.proofs.lemmas.Option.{slice_get-get_or}
 use Rattle.memory_engine.proofs.Moments.{later_same}
 use Rattle.memory_engine.proofs.PlainPins.{adds_pin, newest_is}
