@@ -145,6 +145,8 @@ impl Disk for MemDisk {
 
     ghost attached = { λ disk. disk.attached };
 
+    ghost named = { λ disk. None };
+
     ghost journal_answer = { λ disk. Some disk.hot };
 
     ghost faults = { λ disk. disk.faults };

@@ -58,6 +58,8 @@ impl<'a, R: Files> Disk for FileDisk<'a, R> {
 
     ghost attached = { λ disk. disk.attached };
 
+    ghost named = { λ disk. None };
+
     ghost journal_answer = { λ disk. None };
 
     ghost faults = { λ disk. disk.faults };
