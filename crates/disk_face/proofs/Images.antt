@@ -1,15 +1,15 @@
 -- Laws of images: what a crash may leave, from step to step.
-use Rattle.std.proofs.Common.{◌≡◌, ◌⊎◌, ℕ, zero, suc, ◌+◌, ◌<◌, ◌≤◌, Bool, true, false, not, cond, List, [], ◌∷◌, ◌++◌, length, take, drop, filter, All, refl, sym, ◌∙◌, ap, inl, inr, arith, rules}
-use Rattle.std.proofs.lemmas.Grind.{common_steps, same_number_lists}
+use Rattle.std.proofs.Common.{◌≡◌, ℕ, zero, suc, ◌+◌, ◌<◌, ◌≤◌, Bool, true, false, not, cond, List, [], ◌∷◌, ◌++◌, length, refl, sym, ◌∙◌, ap, arith}
+use Rattle.std.proofs.lemmas.Grind.{same_number_lists}
 use Rattle.std.proofs.lemmas.Bool.{true≢false}
-use Rattle.std.proofs.lemmas.List.Elements.{All-nil, All-cons, All-head, All-tail}
+use Rattle.std.proofs.lemmas.List.Elements.{All-nil, All-cons}
 use Rattle.disk_face.specs.declared.disk.File.{File}
 use Rattle.disk_face.specs.declared.disk.File.TheVariants.{Main, Log1, Log2}
 use Rattle.disk_face.specs.declared.step.Step.{Step}
 use Rattle.disk_face.specs.declared.step.Step.TheVariants.{Wrote, Refused, Synced}
 use Rattle.disk_face.specs.Files.{Files, content, put}
 use Rattle.disk_face.specs.Steps.{History, now, reads, further}
-use Rattle.disk_face.specs.Image.{Range, range_of, same_file, of_others, unsure, IsSure, IsFileImage, IsImage, MayLeave, back, MightHaveLeft, AllLeft}
+use Rattle.disk_face.specs.Image.{Range, range_of, same_file, of_others, unsure, IsSure, IsImage, MayLeave, AllLeft}
 
 -- the disk as it reads is one of its images
 pub reads_may_stay : (before : List Range) (told : History) → MayLeave before told (reads told)

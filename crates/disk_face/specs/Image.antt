@@ -6,7 +6,7 @@ use Rattle.disk_face.specs.declared.step.Piece.{Piece}
 use Rattle.disk_face.specs.declared.step.Step.{Step}
 use Rattle.disk_face.specs.declared.step.Step.TheVariants.{Wrote, Refused, Synced}
 use Rattle.disk_face.specs.Files.{Files, content}
-use Rattle.disk_face.specs.Steps.{History, now, reads}
+use Rattle.disk_face.specs.Steps.{History, reads}
 
 -- so many bytes of a file, from a place on
 pub record Range : Type 0 where

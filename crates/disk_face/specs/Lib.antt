@@ -1,6 +1,7 @@
 pub mod Faults
 pub mod Source
 pub mod Sink
+pub mod Salts
 pub mod Files
 pub mod Steps
 pub mod Image

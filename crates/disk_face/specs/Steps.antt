@@ -1,5 +1,5 @@
 -- A disk's steps, and what reads give after them. Lists of steps have the newest first.
-use Rattle.std.specs.Prelude.{ℕ, List, [], ◌∷◌, Option, Some, None}
+use Rattle.std.specs.Prelude.{List, [], ◌∷◌, Option, Some, None}
 use Rattle.disk_face.specs.declared.step.Piece.{Piece}
 use Rattle.disk_face.specs.declared.step.Step.{Step}
 use Rattle.disk_face.specs.declared.step.Step.TheVariants.{Wrote, Refused, Synced}

@@ -26,3 +26,7 @@ Refuses piece before later = (later ≡ before) ⊎ ((left : List ℕ) × (lengt
 -- the journal's answer is this one
 abbrev pub IsAnswer : Option Bool → Bool → Type 0
 IsAnswer told hot = IfSome told (λ answer. hot ≡ answer)
+
+-- the files were named by this path
+abbrev pub IsNamed : Option (List ℕ) → List ℕ → Type 0
+IsNamed told path = IfSome told (λ name. name ≡ path)

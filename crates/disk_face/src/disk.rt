@@ -2,7 +2,7 @@
 ghost use Rattle.std.specs.Prelude.{◌≡◌, ℕ, ◌≤◌, List, Bool, true, false, Option, length, is_ok, IfOk, OnOk, OnErr, ◌||◌};
 ghost use Rattle.disk_face.specs.Faults.{Rose};
 ghost use Rattle.disk_face.specs.Steps.{History, after};
-ghost use Rattle.disk_face.specs.Told.{IsSize, IsInside, IsRead, IsAnswer, Refuses};
+ghost use Rattle.disk_face.specs.Told.{IsNamed, IsSize, IsInside, IsRead, IsAnswer, Refuses};
 ghost use Rattle.disk_face.specs.declared.step.Step.TheVariants.{Wrote, Synced};
 
 use crate::Failed;
@@ -32,6 +32,9 @@ pub trait Disk {
     /// Whether the files have been named.
     ghost attached: { Self → Bool };
 
+    /// The path by which the files were named, where the disk tells it.
+    ghost named: { Self → Option (List ℕ) };
+
     /// What `journal` answers, where the disk tells it.
     ghost journal_answer: { Self → Option Bool };
 
@@ -46,6 +49,8 @@ pub trait Disk {
     fn attach(&mut self, path: &[u8]) -> Result<(), Failed>
         requires { attached self.old ≡ false }
         ensures attached { attached self.new ≡ is_ok result }
+        ensures named { OnOk result (IsNamed (named self.new) path.now) }
+        ensures unnamed { OnErr result (named self.new ≡ named self.old) }
         ensures cause { OnErr result (Rose (faults self.old) (faults self.new)) }
         ensures faults { faults self.old ≤ faults self.new }
         ensures loans { loans self.new ≡ loans self.old }
@@ -61,6 +66,7 @@ pub trait Disk {
         ensures loans { loans self.new ≡ loans self.old }
         ensures journal_answer { journal_answer self.new ≡ journal_answer self.old }
         ensures attached { attached self.new ≡ attached self.old }
+        ensures named { named self.new ≡ named self.old }
         ensures told { told self.new ≡ told self.old };
 
     /// The file's length.
@@ -72,6 +78,7 @@ pub trait Disk {
         ensures loans { loans self.new ≡ loans self.old }
         ensures journal_answer { journal_answer self.new ≡ journal_answer self.old }
         ensures attached { attached self.new ≡ attached self.old }
+        ensures named { named self.new ≡ named self.old }
         ensures told { told self.new ≡ told self.old };
 
     /// Fills the whole buffer with the file's bytes from `at` on. After `Failed` the buffer has any bytes.
@@ -84,6 +91,7 @@ pub trait Disk {
         ensures loans { loans self.new ≡ loans self.old }
         ensures journal_answer { journal_answer self.new ≡ journal_answer self.old }
         ensures attached { attached self.new ≡ attached self.old }
+        ensures named { named self.new ≡ named self.old }
         ensures told { told self.new ≡ told self.old };
 
     /// Writes the piece at `at`, which may make the file longer. After `Failed` the range has any bytes, and the file is as
@@ -97,7 +105,8 @@ pub trait Disk {
         ensures faults { faults self.old ≤ faults self.new }
         ensures loans { loans self.new ≡ loans self.old }
         ensures journal_answer { journal_answer self.new ≡ journal_answer self.old }
-        ensures attached { attached self.new ≡ attached self.old };
+        ensures attached { attached self.new ≡ attached self.old }
+        ensures named { named self.new ≡ named self.old };
 
     /// Has what was written of the file reach the medium. After `Failed` it may not have.
     fn sync(&mut self, file: File) -> Result<(), Failed>
@@ -108,13 +117,16 @@ pub trait Disk {
         ensures faults { faults self.old ≤ faults self.new }
         ensures loans { loans self.new ≡ loans self.old }
         ensures journal_answer { journal_answer self.new ≡ journal_answer self.old }
-        ensures attached { attached self.new ≡ attached self.old };
+        ensures attached { attached self.new ≡ attached self.old }
+        ensures named { named self.new ≡ named self.old };
 }
 
 impl<D: Disk> Disk for &mut D {
     ghost told = { λ disk. D.told disk.now };
 
     ghost attached = { λ disk. D.attached disk.now };
+
+    ghost named = { λ disk. D.named disk.now };
 
     ghost journal_answer = { λ disk. D.journal_answer disk.now };
 

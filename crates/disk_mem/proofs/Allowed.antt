@@ -1,5 +1,5 @@
 -- What a crash of a disk in memory leaves is what a crash may leave.
-use Rattle.std.proofs.Common.{◌≡◌, ℕ, ◌<◌, [], List, length, refl}
+use Rattle.std.proofs.Common.{ℕ, [], List, length}
 use Rattle.disk_face.specs.declared.disk.File.{File}
 use Rattle.disk_face.specs.declared.disk.File.TheVariants.{Main, Log1, Log2}
 use Rattle.disk_face.specs.Files.{content}

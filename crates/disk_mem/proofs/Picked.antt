@@ -1,5 +1,5 @@
 -- What a crash leaves of one file.
-use Rattle.std.proofs.Common.{◌≡◌, ℕ, zero, suc, ◌+◌, ◌-◌, ◌<◌, ◌≤◌, Bool, true, false, cond, List, [], ◌∷◌, ◌++◌, length, take, drop, refl, sym, ◌∙◌, ap, arith, add-one, drop-cons, slice_index_or}
+use Rattle.std.proofs.Common.{◌≡◌, ℕ, zero, suc, ◌+◌, ◌<◌, Bool, false, cond, List, [], ◌∷◌, length, drop, refl, ◌∙◌, ap, add-one, drop-cons, slice_index_or}
 use Rattle.std.proofs.Math.ListN.{get_or}
 use Rattle.disk_mem.specs.Crash.{picked}
 

@@ -1,6 +1,6 @@
 -- Which places of a file a crash may leave with any bytes, step by step.
-use Rattle.std.proofs.Common.{◌≡◌, ℕ, ◌+◌, ◌≤◌, ◌<◌, Bool, true, false, not, cond, ◌&&◌, ◌||◌, List, [], ◌∷◌, length, map, filter, All, refl, sym, ◌∙◌, ap, subst, arith, rules, ⊎_elim, nat_le, nat_lt, replicate}
-use Rattle.std.specs.List.{list_any, range_with_len}
+use Rattle.std.proofs.Common.{◌≡◌, ℕ, ◌+◌, ◌≤◌, ◌<◌, Bool, true, false, not, cond, ◌&&◌, ◌||◌, List, [], ◌∷◌, length, filter, refl, sym, ◌∙◌, ap, arith, ⊎_elim, nat_le, nat_lt, replicate}
+use Rattle.std.specs.List.{list_any}
 use Rattle.std.proofs.lemmas.List.{ext_get_or, length-replicate, get_or-replicate}
 use Rattle.std.proofs.lemmas.List.FromFn.{get_or-map-range_with_len, length-map-range_with_len}
 use Rattle.std.proofs.lemmas.List.Elements.{All-head, All-tail}
@@ -10,7 +10,7 @@ use Rattle.disk_face.specs.declared.disk.File.{File}
 use Rattle.disk_face.specs.declared.disk.File.TheVariants.{Main, Log1, Log2}
 use Rattle.disk_face.specs.declared.step.Piece.{Piece}
 use Rattle.disk_face.specs.declared.step.Step.{Step}
-use Rattle.disk_face.specs.declared.step.Step.TheVariants.{Wrote, Refused, Synced}
+use Rattle.disk_face.specs.declared.step.Step.TheVariants.{Synced}
 use Rattle.disk_face.specs.Image.{Range, range_of, same_file, of_others, unsure, IsSure}
 use Rattle.disk_mem.specs.Crash.{has_place, places}
 

@@ -1,6 +1,7 @@
 -- What a disk in memory is.
-use Rattle.std.specs.Prelude.{ℕ, ◌+◌, ◌-◌, ◌^◌, min, Bool, if◌then◌else◌}
+use Rattle.std.specs.Prelude.{ℕ, Bool, if◌then◌else◌}
 use Rattle.disk_face.specs.declared.disk.File.{File}
+use Rattle.disk_face.specs.Faults.{one_more}
 use Rattle.disk_face.specs.Steps.{History}
 use Rattle.disk_mem.specs.declared.plan.Call.{Call}
 use Rattle.disk_mem.specs.Plan.{PlanState, fails, called}
@@ -17,10 +18,6 @@ pub record DiskState : Type 0 where
   pub plan : PlanState
   -- how often it has failed
   pub faults : ℕ
-
--- a count of faults with one more
-abbrev pub one_more : ℕ → ℕ
-one_more faults = min (faults + 1) (2 ^ 64 - 1)
 
 -- the disk once it has failed
 abbrev pub failed : DiskState → DiskState

@@ -1,5 +1,5 @@
 -- What a source and a sink in memory are.
-use Rattle.std.specs.Prelude.{◌≡◌, ℕ, List, Option}
+use Rattle.std.specs.Prelude.{ℕ, List, Option}
 
 -- a source
 pub record SourceState : Type 0 where

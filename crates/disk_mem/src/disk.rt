@@ -1,6 +1,6 @@
 // A disk in memory.
 ghost use Rattle.std.specs.Prelude.{◌≡◌, ℕ, ◌+◌, ◌≤◌, List, [], Some, None, false, length, take, drop, is_ok, IsErr, IsTrue, ◌↔◌, IfOk, OnOk, OnErr};
-ghost use Rattle.disk_face.specs.Faults.{Rose};
+ghost use Rattle.disk_face.specs.Faults.{Rose, one_more};
 ghost use Rattle.disk_face.specs.Files.{content};
 ghost use Rattle.disk_face.specs.Steps.{reads, after};
 ghost use Rattle.disk_face.specs.Told.{IsInside, Refuses};
@@ -120,6 +120,7 @@ impl MemDisk {
         ensures fails { IsErr result ↔ IsTrue (fails file call self.old.plan) }
         ensures after { self.new ≡ begun file call self.old }
         ensures cause { OnErr result (Rose self.old.faults self.new.faults) }
+        ensures counted { OnErr result (self.new.faults ≡ one_more self.old.faults) }
         ensures uncounted { OnOk result (self.new.faults ≡ self.old.faults) }
     {
         if self.plan.call(file, call) {
@@ -145,6 +146,8 @@ impl Disk for MemDisk {
 
     ghost attached = { λ disk. disk.attached };
 
+    ghost named = { λ disk. None };
+
     ghost journal_answer = { λ disk. Some disk.hot };
 
     ghost faults = { λ disk. disk.faults };
@@ -158,6 +161,8 @@ impl Disk for MemDisk {
         ensures told { self.new.told ≡ self.old.told }
         ensures attached { self.new.attached ≡ is_ok result }
         ensures hot { self.new.hot ≡ self.old.hot }
+        ensures counted { OnErr result (self.new.faults ≡ one_more self.old.faults) }
+        ensures uncounted { OnOk result (self.new.faults ≡ self.old.faults) }
         ensures cause { OnErr result (Rose self.old.faults self.new.faults) }
         ensures faults { self.old.faults ≤ self.new.faults }
     {
@@ -173,6 +178,8 @@ impl Disk for MemDisk {
         ensures told { self.new.told ≡ self.old.told }
         ensures attached { self.new.attached ≡ self.old.attached }
         ensures hot { self.new.hot ≡ self.old.hot }
+        ensures counted { OnErr result (self.new.faults ≡ one_more self.old.faults) }
+        ensures uncounted { OnOk result (self.new.faults ≡ self.old.faults) }
         ensures cause { OnErr result (Rose self.old.faults self.new.faults) }
         ensures faults { self.old.faults ≤ self.new.faults }
     {
@@ -187,6 +194,8 @@ impl Disk for MemDisk {
         ensures told { self.new.told ≡ self.old.told }
         ensures attached { self.new.attached ≡ self.old.attached }
         ensures hot { self.new.hot ≡ self.old.hot }
+        ensures counted { OnErr result (self.new.faults ≡ one_more self.old.faults) }
+        ensures uncounted { OnOk result (self.new.faults ≡ self.old.faults) }
         ensures cause { OnErr result (Rose self.old.faults self.new.faults) }
         ensures faults { self.old.faults ≤ self.new.faults }
     {
@@ -202,6 +211,8 @@ impl Disk for MemDisk {
         ensures told { self.new.told ≡ self.old.told }
         ensures attached { self.new.attached ≡ self.old.attached }
         ensures hot { self.new.hot ≡ self.old.hot }
+        ensures counted { OnErr result (self.new.faults ≡ one_more self.old.faults) }
+        ensures uncounted { OnOk result (self.new.faults ≡ self.old.faults) }
         ensures cause { OnErr result (Rose self.old.faults self.new.faults) }
         ensures faults { self.old.faults ≤ self.new.faults }
     {
@@ -220,6 +231,8 @@ impl Disk for MemDisk {
         ensures plan { self.new.plan ≡ called file Call.Write self.old.plan }
         ensures attached { self.new.attached ≡ self.old.attached }
         ensures hot { self.new.hot ≡ self.old.hot }
+        ensures counted { OnErr result (self.new.faults ≡ one_more self.old.faults) }
+        ensures uncounted { OnOk result (self.new.faults ≡ self.old.faults) }
         ensures cause { OnErr result (Rose self.old.faults self.new.faults) }
         ensures faults { self.old.faults ≤ self.new.faults }
     {
@@ -240,6 +253,8 @@ impl Disk for MemDisk {
         ensures plan { self.new.plan ≡ called file Call.Sync self.old.plan }
         ensures attached { self.new.attached ≡ self.old.attached }
         ensures hot { self.new.hot ≡ self.old.hot }
+        ensures counted { OnErr result (self.new.faults ≡ one_more self.old.faults) }
+        ensures uncounted { OnOk result (self.new.faults ≡ self.old.faults) }
         ensures cause { OnErr result (Rose self.old.faults self.new.faults) }
         ensures faults { self.old.faults ≤ self.new.faults }
     {

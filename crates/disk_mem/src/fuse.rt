@@ -1,6 +1,6 @@
 // Which call fails, and how often calls have failed.
-ghost use Rattle.std.specs.Prelude.{◌≡◌, ◌+◌, ◌-◌, ◌^◌, min, IsTrue, ◌↔◌, Some};
-ghost use Rattle.disk_face.specs.Faults.{Rose};
+ghost use Rattle.std.specs.Prelude.{◌≡◌, IsTrue, ◌↔◌, Some};
+ghost use Rattle.disk_face.specs.Faults.{Rose, one_more};
 ghost use Rattle.disk_mem.specs.Fuse.{burnt};
 
 /// Whether this call is the one that fails, and what names that call from now on.
@@ -20,7 +20,7 @@ pub fn burn(fails_in: &mut Option<u64>) -> bool
 /// Counts a fault.
 pub fn count_fault(faults: &mut u64)
     ensures rose { Rose faults.old faults.new }
-    ensures by_one { faults.new ≡ min (faults.old + 1) (2 ^ 64 - 1) }
+    ensures by_one { faults.new ≡ one_more faults.old }
 {
     *faults = faults.saturating_add(1);
 }

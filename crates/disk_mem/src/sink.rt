@@ -1,5 +1,7 @@
 // A sink that keeps what is written.
-ghost use Rattle.std.specs.Prelude.{◌≡◌, ◌<◌, [], Some};
+ghost use Rattle.std.specs.Prelude.{◌≡◌, ◌≤◌, ◌<◌, ◌++◌, [], Some, length, take, min, IsErr, IfOk, OnOk, OnErr};
+ghost use Rattle.disk_face.specs.Faults.{Rose, one_more};
+ghost use Rattle.disk_mem.specs.Fuse.{burnt};
 
 use crate::fuse;
 use disk_face::{Failed, Sink};
@@ -61,7 +63,19 @@ impl Sink for MemSink {
 
     ghost loans = { λ sink. [] };
 
-    fn put(&mut self, piece: &[u8]) -> Result<usize, Failed> {
+    fn put(&mut self, piece: &[u8]) -> Result<usize, Failed>
+        ensures planned { self.old.fails_in ≡ Some 1 → IsErr result }
+        ensures count { IfOk result (λ count. count ≡ min (length piece.now) self.old.most) }
+        ensures some { IfOk result (λ count. 0 < length piece.now → 0 < count) }
+        ensures written { IfOk result (λ count. self.new.written ≡ self.old.written ++ take count piece.now) }
+        ensures refused { OnErr result (self.new.written ≡ self.old.written) }
+        ensures most { self.new.most ≡ self.old.most }
+        ensures plan { self.new.fails_in ≡ burnt self.old.fails_in }
+        ensures counted { OnErr result (self.new.faults ≡ one_more self.old.faults) }
+        ensures uncounted { OnOk result (self.new.faults ≡ self.old.faults) }
+        ensures cause { OnErr result (Rose self.old.faults self.new.faults) }
+        ensures faults { self.old.faults ≤ self.new.faults }
+    {
         if fuse::burn(&mut self.fails_in) {
             fuse::count_fault(&mut self.faults);
             return Err(Failed);

@@ -1,5 +1,8 @@
 // A source of bytes that are there from the start.
-ghost use Rattle.std.specs.Prelude.{◌≡◌, ◌≤◌, ◌<◌, ◌++◌, [], Some, length, take, drop};
+ghost use Rattle.std.specs.Prelude.{◌≡◌, ◌≤◌, ◌<◌, ◌++◌, ◌↔◌, [], Some, length, take, drop, min, IsErr, IfOk, OnOk, OnErr};
+ghost use Rattle.disk_face.specs.Faults.{Rose, one_more};
+ghost use Rattle.disk_face.specs.Source.{Takes};
+ghost use Rattle.disk_mem.specs.Fuse.{burnt};
 
 use crate::fuse;
 use disk_face::{Failed, Source};
@@ -54,7 +57,18 @@ impl Source for MemSource {
 
     ghost loans = { λ source. [] };
 
-    fn take(&mut self, buf: &mut [u8]) -> Result<usize, Failed> {
+    fn take(&mut self, buf: &mut [u8]) -> Result<usize, Failed>
+        ensures planned { IsErr result ↔ (self.old.fails_in ≡ Some 1) }
+        ensures count { IfOk result (λ count. count ≡ min (length buf.old) (min self.old.most (length self.old.left))) }
+        ensures taken { IfOk result (λ count. Takes (Some self.old.left) (length buf.old) (take count buf.new) (Some self.new.left)) }
+        ensures refused { OnErr result (self.new.left ≡ self.old.left) }
+        ensures most { self.new.most ≡ self.old.most }
+        ensures plan { self.new.fails_in ≡ burnt self.old.fails_in }
+        ensures counted { OnErr result (self.new.faults ≡ one_more self.old.faults) }
+        ensures uncounted { OnOk result (self.new.faults ≡ self.old.faults) }
+        ensures cause { OnErr result (Rose self.old.faults self.new.faults) }
+        ensures faults { self.old.faults ≤ self.new.faults }
+    {
         if fuse::burn(&mut self.fails_in) {
             fuse::count_fault(&mut self.faults);
             return Err(Failed);
@@ -68,8 +82,7 @@ impl Source for MemSource {
 /// Moves the front of these bytes to the front of the buffer, as much as fits and at most `most`. Says how many.
 fn fill(from: &[u8], most: usize, buf: &mut [u8]) -> usize
     requires { 0 < most }
-    ensures fits { result ≤ length from.now }
-    ensures within { result ≤ length buf.old }
+    ensures count { result ≡ min (length buf.old) (min most (length from.now)) }
     ensures front { from.now ≡ take result buf.new ++ drop result from.now }
     ensures nothing { 0 < length buf.old → result ≡ 0 → from.now ≡ [] }
 {

@@ -1,5 +1,5 @@
 // Salts that are known beforehand.
-ghost use Rattle.std.specs.Prelude.{◌≡◌, ◌≤◌, ℕ, List, [], length, drop};
+ghost use Rattle.std.specs.Prelude.{◌≡◌, ◌≤◌, ℕ, List, [], Some, length, drop};
 ghost use Rattle.disk_mem.specs.Words.{next_word, later_words};
 
 use disk_face::Salts;
@@ -30,6 +30,8 @@ impl FixedSalts {
 }
 
 impl Salts for FixedSalts {
+    ghost words = { λ salts. Some salts };
+
     ghost loans = { λ salts. [] };
 
     fn word(&mut self) -> u32

@@ -1,5 +1,5 @@
 // Words for salts, drawn from one number.
-ghost use Rattle.std.specs.Prelude.{[]};
+ghost use Rattle.std.specs.Prelude.{[], None};
 
 use disk_face::Salts;
 
@@ -24,6 +24,8 @@ impl NumberSalts {
 }
 
 impl Salts for NumberSalts {
+    ghost words = { λ salts. None };
+
     ghost loans = { λ salts. [] };
 
     fn word(&mut self) -> u32 {

@@ -43,6 +43,12 @@ fn real_files_keep_what_is_written(rt: HostRuntime) -> Result<(), Fail> {
 }
 
 #[test]
+fn a_name_that_is_no_text_is_refused(rt: HostRuntime) {
+    let mut disk = FileDisk::new(&rt, rt.alloc());
+    assert_eq!(rt; disk.attach(b"\xff.db"), Err(Failed));
+}
+
+#[test]
 fn standard_input_and_output_take_nothing(rt: HostRuntime) {
     assert_eq!(rt; StdSource::new(&rt).take(&mut []), Ok(0));
     assert_eq!(rt; StdSink::new(&rt).put(&[]), Ok(0));

@@ -1,4 +1,4 @@
-use Rattle.std.proofs.Common.{◌≡◌, ◌∙◌, sym, arith, false, replicate, length}
+use Rattle.std.proofs.Common.{◌∙◌, sym, arith, false, replicate, length}
 use Rattle.std.proofs.lemmas.List.{ext_get_or, length-replicate, get_or-replicate}
 use Rattle.disk_mem.proofs.crash.clear.Goals as goal
 

@@ -1,4 +1,4 @@
-use Rattle.std.proofs.Common.{◌≡◌, ◌∙◌, ap, arith, length, replicate, false}
+use Rattle.std.proofs.Common.{◌∙◌, ap, arith, length, replicate, false}
 use Rattle.disk_mem.proofs.Places.{none_marked}
 use Rattle.disk_mem.proofs.crash.mark.Goals as goal
 

@@ -1,4 +1,4 @@
-use Rattle.std.proofs.Common.{◌≡◌, ◌∙◌, sym, arith, length}
+use Rattle.std.proofs.Common.{◌∙◌, sym, arith, length}
 use Rattle.disk_face.specs.Image.{range_of}
 use Rattle.disk_mem.proofs.Places.{places_more, range_marks}
 use Rattle.disk_mem.proofs.crash.mark_piece.Goals as goal

@@ -1,4 +1,4 @@
-use Rattle.std.proofs.Common.{◌≡◌, ◌++◌, map, take, drop, ℕ}
+use Rattle.std.proofs.Common.{◌≡◌, ◌++◌, map, take, drop}
 use Rattle.disk_mem.specs.Plan.{later}
 use Rattle.disk_mem.proofs.plan.move_on.Given as goal
 

@@ -1,4 +1,4 @@
-use Rattle.std.proofs.Common.{◌≡◌, ◌∙◌, sym, ap, subst, rules, [], List, ℕ}
+use Rattle.std.proofs.Common.{◌≡◌, sym, subst, rules, [], List, ℕ}
 use Rattle.disk_face.specs.Steps.{History, reads}
 use Rattle.disk_face.specs.Image.{MayLeave}
 use Rattle.disk_mem.specs.Crash.{crashed}
