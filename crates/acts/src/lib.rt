@@ -5,12 +5,10 @@ mod in_memory;
 mod pagers;
 mod playing;
 mod seats;
-#[cfg(test)]
-mod tests;
 mod transaction;
 mod turns;
 
-pub use in_memory::InMemory;
+pub use in_memory::{InMemory, engine_of_zeros};
 pub use memory_engine::Plain;
 pub use page_face::Raw;
 pub use pagers::Pagers;

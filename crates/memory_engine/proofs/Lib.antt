@@ -2,4 +2,3 @@ pub mod Moments
 pub mod PlainPins
 pub mod PlainCommits
 pub mod CommitKeeps
-pub mod SharedMoves

@@ -175,8 +175,8 @@ fn is_over(pages: u64, page_size: u64, frames: u64) -> bool
     pages * page_size > MOST_BYTES || frames > MOST_FRAMES
 }
 
-/// Pushes an item for which there is room.
-pub fn push_reserved<T: Drop>(items: &mut Vec<T>, item: T)
+// Pushes an item for which there is room.
+fn push_reserved<T: Drop>(items: &mut Vec<T>, item: T)
     requires { vec_len items.old < vec_capacity items.old }
     ensures { items.new.items ≡ items.old.items ++ item ∷ [] }
 {

@@ -1,2 +1,1 @@
 mod ReadSets
-mod Shelf

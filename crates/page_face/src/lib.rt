@@ -21,6 +21,3 @@ pub use read_set::ReadSet;
 pub use run_spec::{
     Ckpt, CommitFault, FetchFault, Lock, Logs, Mode, PageImage, Pin, Readers, Receipt, Who,
 };
-
-#[cfg(test)]
-mod tests;

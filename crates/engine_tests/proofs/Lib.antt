@@ -1,0 +1,2 @@
+mod Shelves
+mod SharedMoves
