@@ -1,5 +1,5 @@
 -- A run of page lines over an engine that rests at a world is answered as the run over whole page maps is.
-use Rattle.std.proofs.Common.{◌≡◌, ℕ, ◌+◌, ◌<◌, ◌≤◌, List, [], ◌∷◌, ◌++◌, length, take, get_or, Option, Some, None, zero, suc, refl, sym, subst, ap, ◌∙◌, inl, inr, arith, length-append}
+use Rattle.std.proofs.Common.{◌≡◌, ℕ, ◌+◌, ◌<◌, ◌≤◌, List, [], ◌∷◌, ◌++◌, length, take, get_or, Option, Some, None, refl, sym, subst, ap, ◌∙◌, inl, inr, arith, length-append}
 use Rattle.std.specs.Prelude.{◌⊎◌}
 use Rattle.std.proofs.lemmas.Bool.{cases_lt}
 use Rattle.std.proofs.lemmas.List.{length-take-le, get_or_push}
@@ -13,9 +13,10 @@ use Rattle.run_spec.specs.PageLines.{IsPageStore}
 use Rattle.run_spec.specs.Range.{IsInRange, AreInRange}
 use Rattle.run_spec.specs.Seen.{Seen}
 use Rattle.run_spec.specs.World.{World, newest_map, step, answers_to, world_over}
-use Rattle.run_spec.specs.Alike.{AreAlike, AreAlikeWorlds}
+use Rattle.run_spec.specs.Alike.{AreAlike, AreAlikeSince}
 use Rattle.run_spec.proofs.Alone.{IsStore, page-long}
-use Rattle.run_spec.proofs.AlikeLaw.{answers_alike, out_may}
+use Rattle.run_spec.proofs.AlikeLaw.{since_answers, out_since}
+use Rattle.run_spec.proofs.GoingOn.{out_may}
 use Rattle.memory_engine.specs.Plain.{PlainState, newest_of, plain_seen}
 use Rattle.acts.specs.declared.seats.Seat.{Seat}
 use Rattle.acts.specs.declared.seats.State.TheVariants as seat
@@ -92,27 +93,20 @@ plays_answered alone free old maps seats (one ∷ acts) (answer ∷ answers) new
     leads.1 sound_then (λ rose. quiet (rose_then old.faults mid.faults new.faults goes.grew.faults rose))
     (minds_others old mid one acts answer answers (goes.no_logs here) minds) rest)
 
--- the world with the engine's own map in the place of its newest one
-resting : World → PageMap → World
-resting world pages = record world { maps = take (length world.history) world.maps ++ pages ∷ [] }
+-- the world with the engine's own commits and newest map
+resting : Seen → World → PageMap → World
+resting seen world pages = record world {
+  history = seen.history;
+  maps = take (length seen.history) world.maps ++ pages ∷ [];
+}
 
--- maps of which the last is another are alike where the last ones are
-last_alike : (maps : List PageMap) (n : ℕ) (pages : PageMap) → length maps ≡ n + 1 → AreAlike pages (get_or maps n []) → (number : ℕ)
-    → AreAlike (get_or (take n maps ++ pages ∷ []) number []) (get_or maps number [])
-last_alike [] n pages count alike number = absurd (omega arith)
-last_alike (first ∷ []) zero pages count alike zero = alike
-last_alike (first ∷ []) zero pages count alike (suc number) = λ page low high. refl
-last_alike (first ∷ second ∷ maps) zero pages count alike number = absurd (omega arith)
-last_alike (first ∷ maps) (suc n) pages count alike zero = λ page low high. refl
-last_alike (first ∷ maps) (suc n) pages count alike (suc number) = last_alike maps n pages (omega arith) alike number
+-- some of these maps and then another are as many as there are commits, and one more
+count_last : (maps : List PageMap) (n : ℕ) (pages : PageMap) → n ≤ length maps → length (take n maps ++ pages ∷ []) ≡ n + 1
+count_last maps n pages within = omega (arith, length-append (take n maps) (pages ∷ []), length-take-le n maps within)
 
--- its length
-count_last : (maps : List PageMap) (n : ℕ) (pages : PageMap) → length maps ≡ n + 1 → length (take n maps ++ pages ∷ []) ≡ n + 1
-count_last maps n pages count = omega (arith, length-append (take n maps) (pages ∷ []), length-take-le n maps (omega arith))
-
--- and its last
-last_is : (maps : List PageMap) (n : ℕ) (pages : PageMap) → length maps ≡ n + 1 → get_or (take n maps ++ pages ∷ []) n [] ≡ pages
-last_is maps n pages count = get_or_push (take n maps) pages [] n (length-take-le n maps (omega arith))
+-- and that one is the last
+last_is : (maps : List PageMap) (n : ℕ) (pages : PageMap) → n ≤ length maps → get_or (take n maps ++ pages ∷ []) n [] ≡ pages
+last_is maps n pages within = get_or_push (take n maps) pages [] n (length-take-le n maps within)
 
 -- page stores with the same pages 2 to 16 have one page size
 alike_size : (one other : PageMap) → IsPageStore one → IsPageStore other → AreAlike one other → page_size_of one ≡ page_size_of other
@@ -121,39 +115,47 @@ alike_size one other store other_store alike =
     ∙ ap length (alike 2 (omega arith) (omega arith))
     ∙ page-long (page_size_of other) other 2 (record { store = other_store; size = refl }) (omega arith) (omega arith)
 
--- An engine that rests at a world stands at the one with its own newest map, as long as no session has acted.
+-- the world has a map for each of the engine's commits
+enough_maps : (seen : Seen) (world : World) → RestsAt seen world → length seen.history ≤ length world.maps
+enough_maps seen world rests = omega (arith, rests.commits, rests.count)
+
+-- the engine's own map is the newest there
+resting_newest : (seen : Seen) (world : World) (rests : RestsAt seen world) → newest_map (resting seen world rests.pages) ≡ rests.pages
+unfolding resting
+resting_newest seen world rests = last_is world.maps (length seen.history) rests.pages (enough_maps seen world rests)
+
+-- An engine that rests at a world stands at the one with its own commits and newest map, as long as no session has acted.
 rests_stand : (seen : Seen) (map_at : Pin → Option PageMap) (world : World) (rests : RestsAt seen world)
-    → StandsAt seen map_at [] (resting world rests.pages)
+    → StandsAt seen map_at [] (resting seen world rests.pages)
 unfolding resting
 rests_stand seen map_at world rests =
-    let newest = last_is world.maps (length world.history) rests.pages rests.count in
+    let newest = resting_newest seen world rests in
     record {
       tells = record {
-        history_is = rests.history;
+        history_is = refl;
         newest = rests.newest ∙ ap Some (sym newest);
         store = subst IsPageStore (sym newest) rests.store;
         size = rests.size;
         page_size = rests.page_size ∙ ap page_size_of (sym newest);
         running = rests.running;
-        count = count_last world.maps (length world.history) rests.pages rests.count;
+        count = count_last world.maps (length seen.history) rests.pages (enough_maps seen world rests);
       };
       sessions = λ session.
-          subst (Matches map_at (take (length world.history) world.maps ++ rests.pages ∷ []) seat.Out) (sym (rests.out session)) tt;
+          subst (Matches map_at (take (length seen.history) world.maps ++ rests.pages ∷ []) seat.Out) (sym (rests.out session)) tt;
       begun = rests.none_begun;
     }
 
--- the two worlds are alike
-rests_alike : (seen : Seen) (world : World) (rests : RestsAt seen world) → AreAlikeWorlds (resting world rests.pages) world
+-- from its newest map on the two worlds are alike
+rests_alike : (seen : Seen) (world : World) (rests : RestsAt seen world)
+    → AreAlikeSince (length seen.history) (resting seen world rests.pages) world
 unfolding resting
-rests_alike seen world rests = record {
-  history = refl;
-  sessions = λ session. refl;
-  begun = λ session. refl;
-  count = count_last world.maps (length world.history) rests.pages rests.count ∙ sym rests.count;
-  maps = last_alike world.maps (length world.history) rests.pages rests.count rests.alike;
-  page_size = ap page_size_of (last_is world.maps (length world.history) rests.pages rests.count)
-      ∙ alike_size rests.pages (newest_map world) rests.store rests.world_store rests.alike;
-}
+rests_alike seen world rests =
+    let own = resting seen world rests.pages in
+    let newest : newest_map own ≡ rests.pages = resting_newest seen world rests in
+    out_since own world (count_last world.maps (length seen.history) rests.pages (enough_maps seen world rests)) rests.count rests.commits
+    rests.out rests.out (λ session. refl)
+    (subst (λ (pages : PageMap). AreAlike pages (newest_map world)) (sym newest) rests.alike)
+    (ap page_size_of newest ∙ alike_size rests.pages (newest_map world) rests.store rests.world_store rests.alike)
 
 -- A run over an engine that is alone and rests at a world, and that counts no fault, is answered as the run over whole page maps.
 pub rests_answered : (alone free : Type 0) (old : Seen) (maps : Pin → Option PageMap) (acts : List Act) (answers : List Told) (new : Seen)
@@ -161,20 +163,21 @@ pub rests_answered : (alone free : Type 0) (old : Seen) (maps : Pin → Option P
     → Plays alone free old maps [] acts answers new → answers ≡ answers_to world acts
 unfolding resting
 rests_answered alone free old maps acts answers new world here range rests quiet minds plays =
-    let newest = last_is world.maps (length world.history) rests.pages rests.count in
+    let own = resting old world rests.pages in
     let s = page_size_of rests.pages in
-    plays_answered alone free old maps [] acts answers new (resting world rests.pages) here range (rests_stand old maps world rests)
+    plays_answered alone free old maps [] acts answers new own here range (rests_stand old maps world rests)
     (λ k d within. absurd (omega arith)) quiet minds plays
-    ∙ answers_alike s (resting world rests.pages) world acts range
-    (out_may s (resting world rests.pages) (count_last world.maps (length world.history) rests.pages rests.count)
-    (subst (IsStore s) (sym newest) (record { store = rests.store; size = refl })) rests.out) (rests_alike old world rests)
+    ∙ since_answers s (length old.history) own world acts range
+    (out_may s own (count_last world.maps (length old.history) rests.pages (enough_maps old world rests))
+    (subst (IsStore s) (sym (resting_newest old world rests)) (record { store = rests.store; size = refl })) rests.out)
+    (rests_alike old world rests)
 
 -- An engine to which nothing was committed yet rests at the world over any page store with its pages 2 to 16.
 pub rests_over : (seen : Seen) (own pages : PageMap) → seen.history ≡ [] → seen.newest ≡ Some own → seen.size ≡ 16
     → seen.page_size ≡ page_size_of own → seen.stopped ≡ None → IsPageStore own → IsPageStore pages → AreAlike own pages
     → RestsAt seen (world_over pages)
 rests_over seen own pages history newest size page_size running own_store store alike = record {
-  history = history;
+  commits = ap length history;
   count = refl;
   pages = own;
   newest = newest;

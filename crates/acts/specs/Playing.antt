@@ -10,10 +10,10 @@ use Rattle.run_spec.specs.Seen.{Seen}
 use Rattle.run_spec.specs.World.{World, Out, newest_map}
 use Rattle.run_spec.specs.Alike.{AreAlike}
 
--- An engine rests at a world: its commits are the world's, its newest map and the world's are page stores with the same pages 2 to
--- 16, no write of a log failed, and no session has begun a transaction. What the world's older maps are doesn't matter.
+-- An engine rests at a world: it has as many commits, its newest map and the world's are page stores with the same pages 2 to 16, no
+-- write of a log failed, and no session has begun a transaction. What the earlier commits and maps were doesn't matter.
 pub record RestsAt (seen : Seen) (world : World) : Type 0 where
-  pub history : seen.history ≡ world.history
+  pub commits : length seen.history ≡ length world.history
   pub count : length world.maps ≡ length world.history + 1
   pub pages : PageMap
   pub newest : seen.newest ≡ Some pages

@@ -18,7 +18,7 @@ use std::alloc::{AllocError, Global};
 /// which a transaction may always begin, and whose maps have 16 pages. The error is want of memory: the acts before it were done,
 /// and what they left open is rolled back too.
 ///
-/// Engines that begin with the same commits and the same pages 2 to 16 give the same answers, as long as nobody else commits and no
+/// Engines that begin with as many commits and the same pages 2 to 16 give the same answers, as long as nobody else commits and no
 /// disk fails. An engine that keeps logs may answer otherwise where a limit of the log is met, or where an act looks after the logs.
 pub fn play<E: Engine<Raw>>(
     alloc: Global,
