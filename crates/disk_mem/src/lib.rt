@@ -9,8 +9,6 @@ mod plan;
 mod sink;
 mod source;
 mod store;
-#[cfg(test)]
-mod tests;
 mod words;
 
 pub use disk::MemDisk;

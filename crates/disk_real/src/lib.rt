@@ -22,8 +22,6 @@ mod names;
 mod salts;
 mod sink;
 mod source;
-#[cfg(test)]
-mod tests;
 
 pub use disk::FileDisk;
 pub use salts::NumberSalts;

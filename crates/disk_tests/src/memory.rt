@@ -1,8 +1,8 @@
 // What fails, what a crash leaves, and pieces that are given and taken.
 ghost use Rattle.std.specs.Prelude.{◌≡◌, true, false, IfOk};
 
-use crate::{Call, Fail, FixedSalts, MemDisk, MemSink, MemSource};
 use disk_face::{Disk, Failed, File, Salts, Sink, Source};
+use disk_mem::{Call, Fail, FixedSalts, MemDisk, MemSink, MemSource};
 use std::alloc::{AllocError, Global};
 use std::test;
 

@@ -1,5 +1,5 @@
-use crate::*;
 use disk_face::{Disk, Failed, File, Salts, Sink, Source};
+use disk_real::{FileDisk, NumberSalts, StdSink, StdSource};
 use std::fs;
 use std::test::Fail;
 
