@@ -1,9 +1,8 @@
-ghost use Rattle.std.specs.Prelude.{◌≡◌, ◌⊎◌, ◌+◌, ◌%◌, ◌<◌, ◌^◌, ◌≤◌, true, List, ℕ, length, take, drop, Err, IfOk, IfSome, IfErr, OnOk, OnErr, [], ◌∷◌, ◌++◌, IsTrue, ◌↔◌};
+ghost use Rattle.std.specs.Prelude.{◌≡◌, ◌⊎◌, ◌+◌, ◌≤◌, true, length, Err, IfOk, IfSome, IfErr, OnOk, [], ◌∷◌, ◌++◌, IsTrue, ◌↔◌};
 ghost use Rattle.disk_face.specs.Faults.{Rose};
 ghost use Rattle.disk_face.specs.Files.{content};
 ghost use Rattle.disk_face.specs.Steps.{reads};
-ghost use Rattle.disk_face.specs.Told.{IsSize, IsInside};
-ghost use Rattle.log_spec.specs.Checksum.{checksum};
+ghost use Rattle.disk_face.specs.Told.{IsSize};
 ghost use Rattle.page_spec.specs.Header.{is_page_size};
 ghost use Rattle.wal_frames.specs.Front.{words_of, front_of};
 ghost use Rattle.wal_frames.specs.Scan.{FitsHead, TellsOf, NextOf};
