@@ -373,7 +373,8 @@ fn a_call_that_fails_is_told(rt: HostRuntime) -> Result<(), test::Fail> {
     for (file, call, nth, calls, passes) in cases {
         match accept_failing(rt.alloc(), Fail { file, call, nth }, calls) {
             Ok(found) => assert!(rt; passes && has_frames(&found, 4), "{call:?} {nth}"),
-            Err(fault) => assert!(rt; !passes && fault == ScanFault::Disk, "{call:?} {nth}"),
+            Err(ScanFault::Disk) if !passes => {}
+            Err(_) => return Err(test::Fail::from("refused")),
         }
     }
     Ok(())
