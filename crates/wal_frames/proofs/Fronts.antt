@@ -1,12 +1,12 @@
 -- What the bytes of a log begin with, by the outcome of each test.
-use Rattle.std.proofs.Common.{◌⊎◌, inl, inr, ◌≡◌, ◌≢◌, ℕ, ◌+◌, ◌*◌, ◌%◌, ◌^◌, ◌≤◌, ◌<◌, ◌&&◌, ◌||◌, ◌==◌, Bool, true, false, List, length, take, refl, sym, ◌∙◌, ap, arith, nat_le, if◌then◌else◌, Some, None}
+use Rattle.std.proofs.Common.{◌⊎◌, inl, inr, ◌≡◌, ℕ, ◌+◌, ◌*◌, ◌%◌, ◌^◌, ◌≤◌, ◌<◌, ◌&&◌, ◌||◌, ◌==◌, Bool, true, false, List, length, take, refl, sym, ◌∙◌, ap, arith, nat_le}
 use Rattle.std.proofs.lemmas.Bool.Decides.{nat_tests}
 use Rattle.page_spec.specs.Bytes.{u32_at}
 use Rattle.page_spec.specs.Header.{is_page_size}
 use Rattle.log_spec.specs.Checksum.{checksum, sum_of_pairs, pair_step, word_at}
 use Rattle.log_spec.proofs.ChecksumLaws.{sum_of_pairs-more}
-use Rattle.log_spec.specs.LogHeader.{log_fields, is_signed, is_generation, foreign_at, same_sum, own_version, big_magic, little_magic, is_big}
-use Rattle.wal_frames.specs.Front.{front_of, header_in, signed_front}
+use Rattle.log_spec.specs.LogHeader.{log_fields, is_signed, is_generation, foreign_at, same_sum, own_version, big_magic, little_magic}
+use Rattle.wal_frames.specs.Front.{front_of, header_in}
 use Rattle.wal_frames.specs.declared.header.Front.TheVariants.{Nothing, Foreign, Ours}
 
 pub le_true : (m n : ℕ) → m ≤ n → nat_le m n ≡ true

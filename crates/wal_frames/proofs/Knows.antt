@@ -1,10 +1,9 @@
 -- What the scan of a disk's log knows, in the types of this crate.
-use Rattle.std.proofs.Common.{◌≡◌, ◌≢◌, ℕ, ◌+◌, ◌≤◌, List, [], ◌∷◌, ◌++◌, length, map, take, drop, refl, sym, ◌∙◌, ap, arith}
+use Rattle.std.proofs.Common.{◌≡◌, ◌≢◌, ℕ, ◌+◌, List, [], ◌∷◌, ◌++◌, length, take, drop, sym, ◌∙◌, ap, arith}
 use Rattle.std.proofs.lemmas.List.{take-map, map_push, length-map}
 use Rattle.log_spec.specs.Checksum.{Sum as Words}
-use Rattle.log_spec.specs.LogHeader.{LogFields, log_fields, IsOurs}
-use Rattle.log_spec.specs.Accept.{Frame, IsValidFrame, Accepted as IsAccepted, page_numbers, page_number, commit_size, last_size, sum_of_frames, sum_after}
-use Rattle.log_spec.proofs.ScanLaws.{Scanned, scanned_none, scanned_more, scanned_commit, scanned_end}
+use Rattle.log_spec.specs.Accept.{Frame, IsValidFrame, page_numbers, page_number}
+use Rattle.log_spec.proofs.ScanLaws.{Scanned, scanned_more, scanned_commit, scanned_end}
 use Rattle.wal_frames.specs.Front.{words_of, fields_for}
 use Rattle.wal_frames.specs.Scan.{TellsFrame}
 use Rattle.wal_frames.specs.Found.{FindsFrames}

@@ -1,12 +1,11 @@
 -- What the front of a log tells of its bytes.
-use Rattle.std.proofs.Common.{◌≡◌, ◌≢◌, ℕ, ◌+◌, ◌≤◌, ◌<◌, ◌&&◌, ◌||◌, ◌==◌, Bool, true, false, List, [], ◌∷◌, length, take, drop, refl, sym, ◌∙◌, ap, arith, if◌then◌else◌, Option, Some, None, IsTrue}
+use Rattle.std.proofs.Common.{◌≡◌, ℕ, ◌≤◌, ◌<◌, ◌&&◌, ◌||◌, ◌==◌, Bool, true, false, List, [], length, take, refl, sym, ◌∙◌, ap, arith, if◌then◌else◌, Option, Some, None}
 use Rattle.std.proofs.lemmas.List.{length-take-le, take-take}
 use Rattle.std.proofs.lemmas.Bool.{eqb-true}
 use Rattle.std.specs.Prelude.{Result, Ok, Err, IfOk}
 use Rattle.page_spec.specs.Header.{is_page_size}
-use Rattle.log_spec.specs.Checksum.{checksum}
-use Rattle.log_spec.specs.LogHeader.{LogFields, log_fields, is_signed, is_generation, foreign_at, same_sum, own_version, big_magic, little_magic, is_big, IsOurs}
-use Rattle.log_spec.specs.Accept.{Frame, Accepted as IsAccepted}
+use Rattle.log_spec.specs.LogHeader.{LogFields, log_fields, is_signed, is_generation, foreign_at, own_version, big_magic, little_magic, IsOurs}
+use Rattle.log_spec.specs.Accept.{Accepted as IsAccepted}
 use Rattle.wal_frames.specs.Front.{front_of, header_in, signed_front, fields_for, words_of}
 use Rattle.wal_frames.specs.Found.{IsLegalFront, FindsFrames, FindsAccepted, start_sum}
 use Rattle.wal_frames.specs.declared.header.LogHeader.{LogHeader}

@@ -1,10 +1,10 @@
 -- What is written for a log header is signed, and tells that header.
-use Rattle.std.proofs.Common.{◌≡◌, ℕ, ◌+◌, ◌≤◌, ◌==◌, ◌||◌, ◌&&◌, Bool, true, false, List, length, take, refl, sym, ◌∙◌, ap, arith, if◌then◌else◌}
+use Rattle.std.proofs.Common.{◌≡◌, ℕ, ◌≤◌, ◌==◌, ◌||◌, ◌&&◌, Bool, true, false, List, length, take, refl, ◌∙◌, ap, arith, if◌then◌else◌}
 use Rattle.std.proofs.lemmas.Bool.Decides.{nat_tests}
 use Rattle.page_spec.specs.Bytes.{u32_at}
 use Rattle.page_spec.specs.Header.{is_page_size}
 use Rattle.log_spec.specs.Checksum.{checksum}
-use Rattle.log_spec.specs.LogHeader.{log_fields, is_signed, is_generation, same_sum, own_version, big_magic, little_magic}
+use Rattle.log_spec.specs.LogHeader.{log_fields, is_signed, is_generation, own_version, big_magic, little_magic}
 use Rattle.wal_frames.specs.Front.{front_of, header_in, TellsLogHeader}
 use Rattle.wal_frames.specs.declared.header.LogHeader.{LogHeader}
 use Rattle.wal_frames.specs.declared.header.Front.TheVariants.{Ours}

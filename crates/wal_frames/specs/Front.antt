@@ -1,5 +1,5 @@
 -- What the bytes of a log begin with, in the types of this crate.
-use Rattle.std.specs.Prelude.{◌≡◌, ℕ, List, Bool, ◌==◌, if◌then◌else◌, Option, Some, None}
+use Rattle.std.specs.Prelude.{◌≡◌, ℕ, List, if◌then◌else◌, Option, Some, None}
 use Rattle.log_spec.specs.Checksum.{Sum as Words}
 use Rattle.log_spec.specs.LogHeader.{LogFields, log_fields, is_big, is_signed, foreign_at, own_version, big_magic, little_magic}
 use Rattle.wal_frames.specs.declared.sum.Sum.{Sum}

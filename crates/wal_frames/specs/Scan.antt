@@ -2,7 +2,6 @@
 use Rattle.std.specs.Prelude.{◌≡◌, ◌≢◌, ℕ, ◌+◌, List, length, take, drop, Option, MatchOption}
 use Rattle.page_spec.specs.Bytes.{u32_at}
 use Rattle.log_spec.specs.Checksum.{Sum as Words}
-use Rattle.log_spec.specs.LogHeader.{LogFields}
 use Rattle.log_spec.specs.Accept.{Frame, IsValidFrame, page_number, commit_size, sum_after}
 use Rattle.wal_frames.specs.Front.{words_of, fields_for}
 use Rattle.wal_frames.specs.declared.header.LogHeader.{LogHeader}

@@ -1,9 +1,8 @@
-ghost use Rattle.std.specs.Prelude.{◌≡◌, ◌⊎◌, ◌+◌, ◌%◌, ◌<◌, ◌^◌, ◌≤◌, true, List, ℕ, length, take, drop, Err, IfOk, IfSome, IfErr, OnOk, OnErr, [], ◌∷◌, ◌++◌, IsTrue, ◌↔◌};
+ghost use Rattle.std.specs.Prelude.{◌≡◌, ◌⊎◌, ◌+◌, ◌≤◌, true, length, Err, IfOk, IfSome, IfErr, OnOk, [], ◌∷◌, ◌++◌, IsTrue, ◌↔◌};
 ghost use Rattle.disk_face.specs.Faults.{Rose};
 ghost use Rattle.disk_face.specs.Files.{content};
 ghost use Rattle.disk_face.specs.Steps.{reads};
-ghost use Rattle.disk_face.specs.Told.{IsSize, IsInside};
-ghost use Rattle.log_spec.specs.Checksum.{checksum};
+ghost use Rattle.disk_face.specs.Told.{IsSize};
 ghost use Rattle.page_spec.specs.Header.{is_page_size};
 ghost use Rattle.wal_frames.specs.Front.{words_of, front_of};
 ghost use Rattle.wal_frames.specs.Scan.{FitsHead, TellsOf, NextOf};
@@ -17,38 +16,11 @@ use be_fields::get_u32;
 use disk_face::{Disk, Failed, File};
 use std::alloc::Global;
 
-/// The checksum after a page's bytes of a file, going on from another. They are read in pieces.
-fn sum_page<D: Disk>(
-    disk: &mut D,
-    file: File,
-    at: u64,
-    page_size: usize,
-    big: bool,
-    sum: Sum,
-) -> Result<Sum, Failed>
-    requires attached { D.attached disk.old ≡ true }
-    requires inside { IsInside (D.told disk.old) file at page_size }
-    requires whole { page_size % 512 ≡ 0 }
-    requires short { at + page_size < 2 ^ 64 }
-    ensures sum { IfOk result (λ after. IfSome (D.told disk.old)
-        (λ told. words_of after ≡ checksum big (words_of sum) (take page_size (drop at (content (reads told) file))))) }
-    ensures cause { OnErr result (Rose (D.faults disk.old) (D.faults disk.new)) }
-    ensures faults { D.faults disk.old ≤ D.faults disk.new }
-    ensures loans { D.loans disk.new ≡ D.loans disk.old }
-    ensures journal_answer { D.journal_answer disk.new ≡ D.journal_answer disk.old }
-    ensures attached { D.attached disk.new ≡ D.attached disk.old }
-    ensures told { D.told disk.new ≡ D.told disk.old }
-{
-    let mut piece = [0u8; 512];
-    let mut after = sum;
-    let mut done = 0;
-    while done < page_size {
-        disk.read_at(file, at + done as u64, &mut piece)?;
-        after = sum_step(after, big, &piece);
-        done += 512;
-    }
-    Ok(after)
-}
+/// How many bytes stand before the page in a frame.
+const HEAD_SIZE: usize = 24;
+
+/// How many bytes a frame has at most, with the largest page.
+const LONGEST_FRAME: usize = HEAD_SIZE + 65536;
 
 /// What a valid frame tells.
 #[derive(Clone, Copy)]
@@ -73,50 +45,37 @@ fn fits_head(head: &[u8], header: &LogHeader, after: Sum) -> bool
         && get_u32(head, 20) == after.s1
 }
 
-/// What the frame at a place of a file tells, where the frames before it left this checksum. None where it isn't valid.
-fn read_frame<D: Disk>(
-    disk: &mut D,
-    file: File,
-    at: u64,
-    header: &LogHeader,
-    sum: Sum,
-) -> Result<Option<FrameTold>, Failed>
-    requires attached { D.attached disk.old ≡ true }
-    requires size { IsTrue (is_page_size header.now.page_size) }
-    requires inside { IsInside (D.told disk.old) file at (24 + header.now.page_size) }
-    requires short { at + (24 + header.now.page_size) < 2 ^ 64 }
-    ensures frame { IfOk result (λ found. IfSome (D.told disk.old)
-        (λ told. TellsOf header.now (words_of sum) (take (24 + header.now.page_size) (drop at (content (reads told) file))) found)) }
-    ensures cause { OnErr result (Rose (D.faults disk.old) (D.faults disk.new)) }
-    ensures faults { D.faults disk.old ≤ D.faults disk.new }
-    ensures loans { D.loans disk.new ≡ D.loans disk.old }
-    ensures journal_answer { D.journal_answer disk.new ≡ D.journal_answer disk.old }
-    ensures attached { D.attached disk.new ≡ D.attached disk.old }
-    ensures told { D.told disk.new ≡ D.told disk.old }
+/// How many bytes each frame of a log has.
+#[tactic(auto, unfolding(page_spec::specs::Header::is_page_size))]
+fn frame_size(header: &LogHeader) -> usize
+    requires { IsTrue (is_page_size header.now.page_size) }
+    ensures value { result ≡ 24 + header.now.page_size }
+    ensures within { result ≤ LONGEST_FRAME }
 {
-    let mut head = [0u8; 24];
-    disk.read_at(file, at, &mut head)?;
-    let after = sum_step(sum, header.big, &head[..8]);
-    let after = sum_page(
-        disk,
-        file,
-        at + 24,
-        header.page_size as usize,
-        header.big,
-        after,
-    )?;
-    if fits_head(&head, header, after) {
-        Ok(Some(FrameTold {
-            page: get_u32(&head, 0),
-            size: get_u32(&head, 4),
+    HEAD_SIZE + header.page_size as usize
+}
+
+/// What the bytes of a frame tell, where the frames before it left this checksum. None where they are no valid frame.
+fn tell_frame(frame: &[u8], header: &LogHeader, sum: Sum) -> Option<FrameTold>
+    requires legal { IsTrue (is_page_size header.now.page_size) }
+    requires whole { length frame.now ≡ 24 + header.now.page_size }
+    ensures { TellsOf header.now (words_of sum) frame.now result }
+{
+    let front_sum = sum_step(sum, header.big, &frame[..8]);
+    let after = sum_step(front_sum, header.big, &frame[HEAD_SIZE..]);
+    if fits_head(frame, header, after) {
+        Some(FrameTold {
+            page: get_u32(frame, 0),
+            size: get_u32(frame, 4),
             sum: after,
-        }))
+        })
     } else {
-        Ok(None)
+        None
     }
 }
 
-/// What the next frame tells. None where the file has no room for one there, or the frame isn't valid.
+/// Reads the next frame into the buffer, and says what it tells. None where the file has no room for one there, or the frame
+/// isn't valid.
 fn next_frame<D: Disk>(
     disk: &mut D,
     file: File,
@@ -124,11 +83,13 @@ fn next_frame<D: Disk>(
     at: u64,
     header: &LogHeader,
     sum: Sum,
+    frame: &mut [u8],
 ) -> Result<Option<FrameTold>, ScanFault>
     requires attached { D.attached disk.old ≡ true }
     requires legal { IsTrue (is_page_size header.now.page_size) }
     requires sized { IsSize (D.told disk.old) file size }
     requires within { at ≤ size }
+    requires whole { length frame.old ≡ 24 + header.now.page_size }
     ensures frame { IfOk result (λ found. IfSome (D.told disk.old)
         (λ told. NextOf header.now (words_of sum) (content (reads told) file) at found)) }
     ensures room { IfOk result (λ found. IfSome found (λ frame. at + (24 + header.now.page_size) ≤ size)) }
@@ -140,11 +101,11 @@ fn next_frame<D: Disk>(
     ensures attached { D.attached disk.new ≡ D.attached disk.old }
     ensures told { D.told disk.new ≡ D.told disk.old }
 {
-    if size - at < 24 + u64::from(header.page_size) {
+    if size - at < frame.len() as u64 {
         return Ok(None);
     }
-    match read_frame(disk, file, at, header, sum) {
-        Ok(found) => Ok(found),
+    match disk.read_at(file, at, frame) {
+        Ok(()) => Ok(tell_frame(frame, header, sum)),
         Err(Failed) => Err(ScanFault::Disk),
     }
 }
@@ -160,7 +121,7 @@ fn add_page(pages: &mut Vec<u32>, page: u32) -> Result<(), ScanFault>
     }
 }
 
-/// Finds the frames after a header of ours that are accepted. Each is read once, in pieces.
+/// Finds the frames after a header of ours that are accepted. Each is read once, by one call, into one buffer.
 fn scan<D: Disk>(
     alloc: Global,
     disk: &mut D,
@@ -182,15 +143,18 @@ fn scan<D: Disk>(
     ensures attached { D.attached disk.new ≡ D.attached disk.old }
     ensures told { D.told disk.new ≡ D.told disk.old }
 {
+    let mut room = [0u8; LONGEST_FRAME];
+    let frame_size = frame_size(header);
+    let buffer = &mut room[..frame_size];
     let mut pages = Vec::new(alloc);
     let mut kept = 0;
     let mut kept_size = 0;
     let mut kept_sum = header.sum;
     let mut at = 32;
     let mut sum = header.sum;
-    while let Some(frame) = next_frame(disk, file, size, at, header, sum)? {
+    while let Some(frame) = next_frame(disk, file, size, at, header, sum, buffer)? {
         add_page(&mut pages, frame.page)?;
-        at += 24 + u64::from(header.page_size);
+        at += frame_size as u64;
         sum = frame.sum;
         if frame.size != 0 {
             kept = pages.len();
@@ -234,7 +198,8 @@ fn read_front<D: Disk>(disk: &mut D, file: File, size: u64, log: u8) -> Result<F
 /// Finds what is accepted of log 1 or log 2: its header, if that is ours, and the longest list of valid frames after it that
 /// ends in a commit frame.
 ///
-/// The log is read once, in pieces of at most 512 bytes, and nothing is written. Memory is taken for page numbers alone.
+/// The log is read once: its header by one call, and each frame by one call, so in pieces of at most 65,560 bytes. Nothing is
+/// written. Memory is taken for page numbers alone.
 pub fn accepted<D: Disk>(alloc: Global, disk: &mut D, log: u8) -> Result<Accepted, ScanFault>
     requires which { (log ≡ 1) ⊎ (log ≡ 2) }
     requires attached { D.attached disk.old ≡ true }

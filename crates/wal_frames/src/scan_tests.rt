@@ -1,88 +1,381 @@
-use crate::{Front, LogHeader, Sum, accepted};
-use disk_face::Disk;
-use disk_mem::MemDisk;
-use std::test::Fail;
+// Logs and what is accepted of them. A plain program in another language summed their headers and frames.
+ghost use Rattle.std.specs.Prelude.{◌≡◌, ◌⊎◌};
 
-const HEADER: &[u8; 32] = b"\x37\x7f\x06\x83\x05\x8b\x63\x48\x00\x00\x02\x00\x00\x00\x00\x01\
+use crate::{Accepted, Front, LogHeader, ScanFault, Sum, accepted};
+use disk_face::{Disk, File};
+use disk_mem::{Call, Fail, MemDisk};
+use std::alloc::{AllocError, Global};
+use std::test;
+
+/// A header of log 1, of generation 1, for pages of 512 bytes.
+const HEADER: [u8; 32] = *b"\x37\x7f\x06\x83\x05\x8b\x63\x48\x00\x00\x02\x00\x00\x00\x00\x01\
 \x00\x00\x00\x01\x00\x00\x00\x05\x26\x1d\x4e\x69\xd7\xb1\x2a\x88";
 
-/// The headers of three frames, of which the second ends a commit, and the byte that fills the page of each. A plain program
-/// in another language summed them.
-const FRAMES: [(&[u8; 24], u8); 3] = [
-    (
-        b"\x00\x00\x00\x01\x00\x00\x00\x00\x00\x00\x00\x01\x00\x00\x00\x05\xb2\x89\x77\x73\x8f\xc1\x9d\x78",
-        7,
-    ),
-    (
-        b"\x00\x00\x00\x02\x00\x00\x00\x02\x00\x00\x00\x01\x00\x00\x00\x05\xd0\xf2\x0d\x24\x0b\xa5\x9e\x7f",
-        8,
-    ),
-    (
-        b"\x00\x00\x00\x03\x00\x00\x00\x00\x00\x00\x00\x01\x00\x00\x00\x05\x49\x62\x5d\x30\xb9\x29\x72\x3e",
-        9,
-    ),
+/// The first bytes of a frame, and the byte that fills its page.
+#[derive(Clone, Copy)]
+struct FrameText {
+    head: [u8; 24],
+    fill: u8,
+}
+
+/// Four frames after that header. The second and the last end a commit.
+const FRAMES: [FrameText; 4] = [
+    FrameText {
+        head: *b"\x00\x00\x00\x01\x00\x00\x00\x00\x00\x00\x00\x01\x00\x00\x00\x05\xb2\x89\x77\x73\x8f\xc1\x9d\x78",
+        fill: 7,
+    },
+    FrameText {
+        head: *b"\x00\x00\x00\x02\x00\x00\x00\x02\x00\x00\x00\x01\x00\x00\x00\x05\xd0\xf2\x0d\x24\x0b\xa5\x9e\x7f",
+        fill: 8,
+    },
+    FrameText {
+        head: *b"\x00\x00\x00\x03\x00\x00\x00\x00\x00\x00\x00\x01\x00\x00\x00\x05\x49\x62\x5d\x30\xb9\x29\x72\x3e",
+        fill: 9,
+    },
+    FrameText {
+        head: *b"\x00\x00\x00\x01\x00\x00\x00\x03\x00\x00\x00\x01\x00\x00\x00\x05\x8b\xef\x02\xcd\xc7\x3a\xc8\x47",
+        fill: 10,
+    },
 ];
 
+/// Two frames that go on after the second of those with right checksums, of which the first has page number 0.
+const UNNUMBERED: [FrameText; 2] = [
+    FrameText {
+        head: *b"\x00\x00\x00\x00\x00\x00\x00\x00\x00\x00\x00\x01\x00\x00\x00\x05\x69\x5e\xfc\x8a\xcc\x88\x91\x49",
+        fill: 9,
+    },
+    FrameText {
+        head: *b"\x00\x00\x00\x01\x00\x00\x00\x03\x00\x00\x00\x01\x00\x00\x00\x05\xae\x7f\x7b\x6e\x07\x8d\xba\xe0",
+        fill: 10,
+    },
+];
+
+/// A header of generation 3 with other salts, and a frame after it that ends a commit of 4 pages.
+const LATER_HEADER: [u8; 32] = *b"\x37\x7f\x06\x83\x05\x8b\x63\x48\x00\x00\x02\x00\x00\x00\x00\x03\
+\x00\x00\x00\x02\x00\x00\x00\x07\x26\x1d\x4e\x6c\xd7\xb1\x2a\x8f";
+
+const LATER_FRAME: FrameText = FrameText {
+    head: *b"\x00\x00\x00\x09\x00\x00\x00\x04\x00\x00\x00\x02\x00\x00\x00\x07\xd3\xdc\xe5\xed\x30\xc1\xff\x46",
+    fill: 6,
+};
+
+/// A header of log 2, whose words are summed with the least significant byte first, and a frame after it that ends a commit of
+/// 6 pages.
+const EVEN_HEADER: [u8; 32] = *b"\x37\x7f\x06\x82\x05\x8b\x63\x48\x00\x00\x02\x00\x00\x00\x00\x02\
+\x00\x00\x00\x01\x00\x00\x00\x05\x66\x4f\x1d\x22\x84\x2b\xb0\xd1";
+
+const EVEN_FRAME: FrameText = FrameText {
+    head: *b"\x00\x00\x00\x04\x00\x00\x00\x06\x00\x00\x00\x01\x00\x00\x00\x05\xfc\xa3\x44\xc0\x13\xa6\xf5\x45",
+    fill: 5,
+};
+
+/// A header for pages of 65,536 bytes, and the first bytes of a frame after it that ends a commit of 3 pages.
+const WIDE_HEADER: [u8; 32] = *b"\x37\x7f\x06\x83\x05\x8b\x63\x48\x00\x01\x00\x00\x00\x00\x00\x01\
+\x00\x00\x00\x01\x00\x00\x00\x05\x26\x1f\x4a\x69\xd7\xb4\x24\x88";
+
+const WIDE_HEAD: [u8; 24] =
+    *b"\x00\x00\x00\x03\x00\x00\x00\x03\x00\x00\x00\x01\x00\x00\x00\x05\x5f\x09\x4b\x71\x3d\xba\xc7\x00";
+
+/// How many bytes a frame with a page of 512 bytes has.
+const FRAME_SIZE: usize = 536;
+
+/// The sums after the header and after two and four frames.
 const START: Sum = Sum {
     s0: 639454825,
     s1: 3618712200,
 };
 
-const COMMITTED: Sum = Sum {
+const AFTER_TWO: Sum = Sum {
     s0: 3505524004,
     s1: 195403391,
 };
 
+const AFTER_FOUR: Sum = Sum {
+    s0: 2347696845,
+    s1: 3342518343,
+};
+
+fn add_frames(log: &mut Vec<u8>, frames: &[FrameText]) -> Result<(), AllocError> {
+    for frame in frames {
+        log.extend_from_slice(&frame.head)?;
+        log.extend_from_slice(&[frame.fill; 512])?;
+    }
+    Ok(())
+}
+
+/// The log of the four frames.
+fn four_frames(alloc: Global) -> Result<Vec<u8>, AllocError> {
+    let mut log = HEADER.to_vec(alloc)?;
+    add_frames(&mut log, &FRAMES)?;
+    Ok(log)
+}
+
+/// What is accepted of these bytes as log 1 or log 2.
+fn accept(alloc: Global, bytes: Vec<u8>, log: u8) -> Result<Accepted, ScanFault>
+    requires { (log ≡ 1) ⊎ (log ≡ 2) }
+{
+    let none = Vec::new(alloc);
+    let main = Vec::new(alloc);
+    let failing = Vec::new(alloc);
+    let mut disk = if log == 1 {
+        MemDisk::new(alloc, main, bytes, none, failing)
+    } else {
+        MemDisk::new(alloc, main, none, bytes, failing)
+    };
+    if disk.attach(b"db").is_err() {
+        return Err(ScanFault::Disk);
+    }
+    accepted(alloc, &mut disk, log)
+}
+
+/// Whether so many of the four frames were found: none, two or all.
+fn has_frames(found: &Accepted, count: usize) -> bool {
+    let (size, sum) = match count {
+        0 => (0, START),
+        2 => (2, AFTER_TWO),
+        _ => (3, AFTER_FOUR),
+    };
+    found.pages.as_slice() == &[1u32, 2, 3, 1][..count.min(4)]
+        && found.size == size
+        && found.sum == sum
+}
+
 #[test]
-fn the_frames_up_to_the_last_commit_are_accepted(rt: HostRuntime) -> Result<(), Fail> {
-    // How many bytes the log has, a byte that is changed, how many pages are accepted, and the sum after them.
-    let cases: [(usize, Option<usize>, usize, Sum); 9] = [
-        (0, None, 0, Sum { s0: 0, s1: 0 }),
-        (31, None, 0, Sum { s0: 0, s1: 0 }),
-        (32, None, 0, START),
-        (1104, None, 2, COMMITTED),
-        (1103, None, 0, START),
-        (1640, None, 2, COMMITTED),
-        (1640, Some(35), 0, START),
-        (1640, Some(580), 0, START),
-        (1640, Some(700), 0, START),
+fn the_frames_up_to_the_last_commit_are_accepted(rt: HostRuntime) -> Result<(), test::Fail> {
+    let ours = Front::Ours(LogHeader {
+        big: true,
+        page_size: 512,
+        generation: 1,
+        salt1: 1,
+        salt2: 5,
+        sum: START,
+    });
+    // How many bytes the log has, and how many of its frames are accepted.
+    let cases = [
+        (32, 0),
+        (1103, 0),
+        (1104, 2),
+        (1640, 2),
+        (2175, 2),
+        (2176, 4),
     ];
-    for (size, changed, count, sum) in cases {
-        let mut log = Vec::new(rt.alloc());
-        log.extend_from_slice(HEADER)?;
-        for (head, fill) in FRAMES {
-            log.extend_from_slice(head)?;
-            log.extend_from_slice(&[fill; 512])?;
-        }
+    for (size, count) in cases {
+        let mut log = four_frames(rt.alloc())?;
         log.truncate(size);
-        if let Some(at) = changed {
-            if at < log.len() {
-                log[at] = 0xee;
-            }
+        let found = accept(rt.alloc(), log, 1)?;
+        assert_eq!(rt; found.front, ours, "at {size}");
+        assert!(rt; has_frames(&found, count), "at {size}");
+    }
+    Ok(())
+}
+
+#[test]
+fn a_log_without_a_whole_header_is_nothing(rt: HostRuntime) -> Result<(), test::Fail> {
+    for size in [0, 31] {
+        let mut log = four_frames(rt.alloc())?;
+        log.truncate(size);
+        let found = accept(rt.alloc(), log, 1)?;
+        assert_eq!(rt; found.front, Front::Nothing);
+        assert_eq!(rt; found.pages.len(), 0);
+        assert_eq!(rt; found.size, 0);
+        assert_eq!(rt; found.sum, Sum { s0: 0, s1: 0 });
+    }
+    Ok(())
+}
+
+#[test]
+fn a_frame_that_is_torn_ends_the_log(rt: HostRuntime) -> Result<(), test::Fail> {
+    // The last byte of each number of a frame, and the first and the last byte of its page.
+    let fields = [3, 7, 11, 15, 19, 23, 24, 535];
+    // Which frame is torn, and how many are accepted.
+    for (frame, count) in [(0, 0), (1, 0), (2, 2), (3, 2)] {
+        for field in fields {
+            let mut log = four_frames(rt.alloc())?;
+            let at = HEADER.len() + FRAME_SIZE * frame + field;
+            assert!(rt; at < log.len());
+            log[at] = 0xee;
+            let found = accept(rt.alloc(), log, 1)?;
+            assert!(rt; has_frames(&found, count), "torn at {at}");
         }
-        let mut disk = MemDisk::new(
-            rt.alloc(),
-            Vec::new(rt.alloc()),
-            log,
-            Vec::new(rt.alloc()),
-            Vec::new(rt.alloc()),
-        );
-        assert!(rt; disk.attach(b"db").is_ok());
-        let Ok(found) = accepted(rt.alloc(), &mut disk, 1) else {
-            return Err(Fail::from("refused"));
+    }
+    Ok(())
+}
+
+#[test]
+fn page_number_0_ends_the_log(rt: HostRuntime) -> Result<(), test::Fail> {
+    let mut log = four_frames(rt.alloc())?;
+    log.truncate(1104);
+    add_frames(&mut log, &UNNUMBERED)?;
+    let found = accept(rt.alloc(), log, 1)?;
+    assert!(rt; has_frames(&found, 2));
+    Ok(())
+}
+
+#[test]
+fn frames_of_an_earlier_generation_are_left(rt: HostRuntime) -> Result<(), test::Fail> {
+    let mut log = LATER_HEADER.to_vec(rt.alloc())?;
+    add_frames(&mut log, &[LATER_FRAME])?;
+    add_frames(&mut log, &FRAMES[1..])?;
+    let found = accept(rt.alloc(), log, 1)?;
+    assert_eq!(rt; found.pages.as_slice(), [9u32].as_slice());
+    assert_eq!(rt; found.size, 4);
+    assert_eq!(rt;
+        found.sum,
+        Sum {
+            s0: 3554469357,
+            s1: 818020166
+        }
+    );
+    Ok(())
+}
+
+#[test]
+fn an_even_generation_belongs_to_log_2(rt: HostRuntime) -> Result<(), test::Fail> {
+    let mut log = EVEN_HEADER.to_vec(rt.alloc())?;
+    add_frames(&mut log, &[EVEN_FRAME])?;
+    let found = accept(rt.alloc(), log.clone()?, 1)?;
+    let foreign = Front::Foreign {
+        version: 93021000,
+        at: 12,
+    };
+    assert_eq!(rt; found.front, foreign);
+    assert_eq!(rt; found.pages.len(), 0);
+    let found = accept(rt.alloc(), log, 2)?;
+    assert_eq!(rt; found.pages.as_slice(), [4u32].as_slice());
+    assert_eq!(rt; found.size, 6);
+    assert_eq!(rt;
+        found.sum,
+        Sum {
+            s0: 4238558400,
+            s1: 329708869
+        }
+    );
+    Ok(())
+}
+
+#[test]
+fn the_largest_pages_are_read(rt: HostRuntime) -> Result<(), test::Fail> {
+    let mut log = WIDE_HEADER.to_vec(rt.alloc())?;
+    log.extend_from_slice(&WIDE_HEAD)?;
+    for _ in 0..128 {
+        log.extend_from_slice(&[7; 512])?;
+    }
+    let found = accept(rt.alloc(), log, 1)?;
+    assert_eq!(rt; found.pages.as_slice(), [3u32].as_slice());
+    assert_eq!(rt; found.size, 3);
+    assert_eq!(rt;
+        found.sum,
+        Sum {
+            s0: 1594444657,
+            s1: 1035650816
+        }
+    );
+    Ok(())
+}
+
+/// A signed header, and where and by which version it is foreign in log 1.
+struct ForeignHeader {
+    bytes: [u8; 32],
+    version: u32,
+    at: u64,
+}
+
+const FOREIGN: [ForeignHeader; 6] = [
+    // Version 3007000.
+    ForeignHeader {
+        bytes: *b"\x37\x7f\x06\x83\x00\x2d\xe2\x18\x00\x00\x02\x00\x00\x00\x00\x01\
+\x00\x00\x00\x01\x00\x00\x00\x05\x16\x04\xca\xd9\xbc\xdd\xa4\x98",
+        version: 3007000,
+        at: 4,
+    },
+    // That version, page size 1000 and generation 2.
+    ForeignHeader {
+        bytes: *b"\x37\x7f\x06\x83\x00\x2d\xe2\x18\x00\x00\x03\xe8\x00\x00\x00\x02\
+\x00\x00\x00\x01\x00\x00\x00\x05\x16\x04\xce\xaa\xbc\xdd\xaa\x52",
+        version: 3007000,
+        at: 4,
+    },
+    // Page size 1000.
+    ForeignHeader {
+        bytes: *b"\x37\x7f\x06\x83\x05\x8b\x63\x48\x00\x00\x03\xe8\x00\x00\x00\x01\
+\x00\x00\x00\x01\x00\x00\x00\x05\x26\x1d\x52\x39\xd7\xb1\x30\x40",
+        version: 93021000,
+        at: 8,
+    },
+    // Page size 131,072 and generation 2.
+    ForeignHeader {
+        bytes: *b"\x37\x7f\x06\x83\x05\x8b\x63\x48\x00\x02\x00\x00\x00\x00\x00\x02\
+\x00\x00\x00\x01\x00\x00\x00\x05\x26\x21\x4a\x6a\xd7\xb7\x24\x8a",
+        version: 93021000,
+        at: 8,
+    },
+    // Generation 0.
+    ForeignHeader {
+        bytes: *b"\x37\x7f\x06\x83\x05\x8b\x63\x48\x00\x00\x02\x00\x00\x00\x00\x00\
+\x00\x00\x00\x01\x00\x00\x00\x05\x26\x1d\x4e\x68\xd7\xb1\x2a\x86",
+        version: 93021000,
+        at: 12,
+    },
+    // Generation 4,000,000,001.
+    ForeignHeader {
+        bytes: *b"\x37\x7f\x06\x83\x05\x8b\x63\x48\x00\x00\x02\x00\xee\x6b\x28\x01\
+\x00\x00\x00\x01\x00\x00\x00\x05\x14\x88\x76\x69\xb4\x87\x7a\x88",
+        version: 93021000,
+        at: 12,
+    },
+];
+
+#[test]
+fn a_log_with_a_foreign_header_has_no_frames(rt: HostRuntime) -> Result<(), test::Fail> {
+    for header in &FOREIGN {
+        let found = accept(rt.alloc(), header.bytes.to_vec(rt.alloc())?, 1)?;
+        let front = Front::Foreign {
+            version: header.version,
+            at: header.at,
         };
-        assert_eq!(rt; found.pages.as_slice(), &[1u32, 2][..count.min(2)]);
-        assert_eq!(rt; found.size, if count == 2 { 2 } else { 0 });
-        assert_eq!(rt; found.sum, sum);
-        let ours = Front::Ours(LogHeader {
-            big: true,
-            page_size: 512,
-            generation: 1,
-            salt1: 1,
-            salt2: 5,
-            sum: START,
-        });
-        assert_eq!(rt; found.front, if size < 32 { Front::Nothing } else { ours });
+        assert_eq!(rt; found.front, front);
+        assert_eq!(rt; found.pages.len(), 0);
+        assert_eq!(rt; found.size, 0);
+        assert_eq!(rt; found.sum, Sum { s0: 0, s1: 0 });
+    }
+    Ok(())
+}
+
+/// What is accepted of the four frames on a disk with a call that fails, and that stops after so many calls.
+fn accept_failing(alloc: Global, fail: Fail, calls: u64) -> Result<Accepted, ScanFault> {
+    let Ok(log) = four_frames(alloc) else {
+        return Err(ScanFault::Memory);
+    };
+    let mut failing = Vec::new(alloc);
+    if failing.push(fail).is_err() {
+        return Err(ScanFault::Memory);
+    }
+    let mut disk = MemDisk::new(alloc, Vec::new(alloc), log, Vec::new(alloc), failing);
+    if disk.attach(b"db").is_err() {
+        return Err(ScanFault::Disk);
+    }
+    disk.stop_after(calls);
+    accepted(alloc, &mut disk, 1)
+}
+
+#[test]
+fn a_call_that_fails_is_told(rt: HostRuntime) -> Result<(), test::Fail> {
+    // A scan asks for the size, and reads the header and each of the four frames by one call.
+    let cases = [
+        (File::Log1, Call::Size, 1, 6, false),
+        (File::Log1, Call::Read, 1, 6, false),
+        (File::Log1, Call::Read, 2, 6, false),
+        (File::Log1, Call::Read, 5, 6, false),
+        (File::Log1, Call::Read, 6, 5, false),
+        (File::Log1, Call::Read, 6, 6, true),
+        (File::Log2, Call::Read, 1, 6, true),
+    ];
+    for (file, call, nth, calls, passes) in cases {
+        match accept_failing(rt.alloc(), Fail { file, call, nth }, calls) {
+            Ok(found) => assert!(rt; passes && has_frames(&found, 4), "{call:?} {nth}"),
+            Err(ScanFault::Disk) if !passes => {}
+            Err(_) => return Err(test::Fail::from("refused")),
+        }
     }
     Ok(())
 }

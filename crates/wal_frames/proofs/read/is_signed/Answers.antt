@@ -1,4 +1,4 @@
-use Rattle.std.proofs.Common.{◌≡◌, ◌==◌, refl, sym, ◌∙◌, arith, true, false}
+use Rattle.std.proofs.Common.{◌==◌, refl, arith}
 use Rattle.wal_frames.specs.Front.{words_of}
 use Rattle.wal_frames.proofs.Fronts.{short_is_unsigned, other_is_unsigned, signed_then, signed_else, magic_either}
 use Rattle.wal_frames.proofs.read.is_signed.Goals as goal

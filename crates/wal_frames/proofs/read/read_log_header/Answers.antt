@@ -1,4 +1,4 @@
-use Rattle.std.proofs.Common.{◌≡◌, sym, ◌∙◌, arith, true, false}
+use Rattle.std.proofs.Common.{sym, ◌∙◌, arith}
 use Rattle.wal_frames.proofs.Fronts.{nothing_there, other_version, other_page_size, other_generation, ours_there}
 use Rattle.wal_frames.proofs.read.read_log_header.Goals as goal
 

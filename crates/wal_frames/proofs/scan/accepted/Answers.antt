@@ -1,13 +1,13 @@
-use Rattle.std.proofs.Common.{◌≡◌, ◌+◌, ◌≤◌, List, ℕ, length, take, drop, refl, sym, ◌∙◌, ap, arith}
+use Rattle.std.proofs.Common.{◌≡◌, refl}
 use Rattle.std.specs.Prelude.{IfSome}
 use Rattle.disk_face.specs.Files.{content}
 use Rattle.disk_face.specs.Steps.{reads, History}
-use Rattle.wal_frames.specs.Front.{front_of, words_of}
+use Rattle.wal_frames.specs.Front.{front_of}
 use Rattle.wal_frames.specs.Found.{FindsAccepted, log_file}
-use Rattle.wal_frames.specs.declared.header.Front.TheVariants.{Nothing, Foreign, Ours}
+use Rattle.wal_frames.specs.declared.header.Front.TheVariants.{Ours}
 use Rattle.wal_frames.specs.declared.found.Accepted.{Accepted}
-use Rattle.wal_frames.proofs.Pieces.{if_some_2, if_some_3}
-use Rattle.wal_frames.proofs.Opening.{short_front, front-take, legal_front, found_none, found_some, if_ok_2}
+use Rattle.wal_frames.proofs.Pieces.{if_some_2}
+use Rattle.wal_frames.proofs.Opening.{found_none, found_some, if_ok_2}
 use Rattle.wal_frames.proofs.scan.accepted.Goals as goal
 
 pub returns-in-Ours-clause-found : goal.returns-in-Ours-clause-found

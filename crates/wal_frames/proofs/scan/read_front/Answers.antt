@@ -1,12 +1,10 @@
-use Rattle.std.proofs.Common.{◌≡◌, ◌+◌, ◌≤◌, List, ℕ, length, take, drop, refl, sym, ◌∙◌, ap, arith}
+use Rattle.std.proofs.Common.{◌≡◌, ℕ, length, take, ◌∙◌, ap, arith}
 use Rattle.disk_face.specs.Files.{content}
 use Rattle.disk_face.specs.Steps.{reads, History}
-use Rattle.wal_frames.specs.Front.{front_of, words_of}
-use Rattle.wal_frames.specs.Found.{FindsAccepted, log_file}
-use Rattle.wal_frames.specs.declared.header.Front.TheVariants.{Nothing, Foreign, Ours}
-use Rattle.wal_frames.specs.declared.found.Accepted.{Accepted}
-use Rattle.wal_frames.proofs.Pieces.{if_some_2, if_some_3}
-use Rattle.wal_frames.proofs.Opening.{short_front, front-take, legal_front, found_none, found_some}
+use Rattle.wal_frames.specs.Front.{front_of}
+use Rattle.wal_frames.specs.declared.header.Front.TheVariants.{Nothing}
+use Rattle.wal_frames.proofs.Pieces.{if_some_2}
+use Rattle.wal_frames.proofs.Opening.{short_front, front-take, legal_front}
 use Rattle.wal_frames.proofs.scan.read_front.Goals as goal
 
 pub returns-then-size-lt32-clause-front : goal.returns-then-size-lt32-clause-front

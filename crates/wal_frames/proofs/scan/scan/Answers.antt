@@ -1,13 +1,12 @@
-use Rattle.std.proofs.Common.{◌≡◌, ◌+◌, ◌≤◌, ◌++◌, ◌∷◌, [], List, ℕ, length, take, drop, refl, sym, ◌∙◌, ap, arith, length-append}
+use Rattle.std.proofs.Common.{◌≡◌, ◌+◌, ◌++◌, ◌∷◌, [], List, ℕ, length, refl, ◌∙◌, ap, arith, length-append}
 use Rattle.disk_face.specs.Files.{content}
 use Rattle.disk_face.specs.Steps.{reads, History}
-use Rattle.wal_frames.specs.Front.{words_of, fields_for}
-use Rattle.wal_frames.specs.Scan.{NextOf}
+use Rattle.wal_frames.specs.Front.{words_of}
 use Rattle.std.specs.Prelude.{vec_len}
 use Rattle.wal_frames.specs.declared.header.Front.TheVariants.{Ours}
 use Rattle.wal_frames.specs.declared.found.Accepted.{Accepted}
 use Rattle.wal_frames.specs.Found.{FindsFrames}
-use Rattle.wal_frames.proofs.Pieces.{if_some_3, if_some_2}
+use Rattle.wal_frames.proofs.Pieces.{if_some_2}
 use Rattle.wal_frames.proofs.Knows.{Knows, knows_more, knows_commit, found_at_end}
 use Rattle.wal_frames.proofs.scan.scan.Goals as goal
 
@@ -20,14 +19,14 @@ loop-pages-preserved g c =
     let tells = rw (loop.invariant.told, c.in-Some.is) at c.in_ok-frame.ensures.frame in
     let room = rw c.in-Some.is at c.in_ok-frame.ensures.room in
     record {
-      within = omega (arith, room, c.from.ensures);
+      within = omega (arith, room, c.frame_size-frame_size.ensures.value);
       attached = c.next_frame.ensures.attached ∙ loop.invariant.attached;
       told = c.next_frame.ensures.told ∙ loop.invariant.told;
       faults = omega (arith, c.next_frame.ensures.faults, loop.invariant.faults);
       loans = c.next_frame.ensures.loans ∙ loop.invariant.loans;
       journal_answer = c.next_frame.ensures.journal_answer ∙ loop.invariant.journal_answer;
       scanned =
-          rw (c.from.ensures, c.in_ok-add_page.ensures.ok)
+          rw (c.frame_size-frame_size.ensures.value, c.in_ok-add_page.ensures.ok)
           (if_some_2 _ _
           (λ (told : History). Knows (content (reads told) c.args.file) c.args.header.now (loop.at + (24 + c.args.header.now.page_size))
           (words_of c.in-Some.frame.sum) loop.kept loop.kept_size (words_of loop.kept_sum) (loop.pages.items ++ c.in-Some.frame.page ∷ []))
@@ -43,14 +42,14 @@ loop-pages-preserved-then-frame-ne0 g c =
     let count : c.len-kept.result ≡ length loop.pages.items + 1 = counted c.len-kept.result (vec_len c.add_page.new.pages) c.add_page.new.pages.items loop.pages.items c.in-Some.frame.page
     c.len-kept.ensures (omega (arith, c.add_page.new.pages.ok.0)) c.in_ok-add_page.ensures.ok in
     record {
-      within = omega (arith, room, c.from.ensures);
+      within = omega (arith, room, c.frame_size-frame_size.ensures.value);
       attached = c.next_frame.ensures.attached ∙ loop.invariant.attached;
       told = c.next_frame.ensures.told ∙ loop.invariant.told;
       faults = omega (arith, c.next_frame.ensures.faults, loop.invariant.faults);
       loans = c.next_frame.ensures.loans ∙ loop.invariant.loans;
       journal_answer = c.next_frame.ensures.journal_answer ∙ loop.invariant.journal_answer;
       scanned =
-          rw (c.from.ensures, c.in_ok-add_page.ensures.ok)
+          rw (c.frame_size-frame_size.ensures.value, c.in_ok-add_page.ensures.ok)
           (if_some_2 _ _
           (λ (told : History). Knows (content (reads told) c.args.file) c.args.header.now (loop.at + (24 + c.args.header.now.page_size))
           (words_of c.in-Some.frame.sum) c.len-kept.result c.in-Some.frame.size (words_of c.in-Some.frame.sum) (loop.pages.items ++ c.in-Some.frame.page ∷ []))

@@ -1,4 +1,4 @@
-use Rattle.std.proofs.Common.{◌≡◌, ◌+◌, ◌≤◌, ◌-◌, ℕ, List, true}
+use Rattle.std.proofs.Common.{◌≡◌, ◌≤◌, ◌-◌, List, true}
 use Rattle.std.specs.Prelude.{IfSome}
 use Rattle.disk_face.specs.Files.{content}
 use Rattle.disk_face.specs.Steps.{reads}

@@ -1,6 +1,5 @@
-use Rattle.std.proofs.Common.{◌≡◌, ◌+◌, ◌*◌, ◌/◌, length, sym, ◌∙◌, arith, refl, ap}
-use Rattle.log_spec.specs.Checksum.{checksum, word_at, sum_of_pairs, pair_step}
-use Rattle.log_spec.proofs.ChecksumLaws.{sum_of_pairs-more, sum_of_pairs-none, checksum-is}
+use Rattle.std.proofs.Common.{◌≡◌, ◌/◌, length, sym, ◌∙◌, arith, refl}
+use Rattle.log_spec.proofs.ChecksumLaws.{sum_of_pairs-none, checksum-is}
 use Rattle.wal_frames.proofs.Fronts.{pair_added}
 use Rattle.wal_frames.specs.Front.{words_of}
 use Rattle.wal_frames.proofs.sum.sum_step.Goals as goal

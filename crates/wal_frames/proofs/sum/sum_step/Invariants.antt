@@ -1,4 +1,4 @@
-use Rattle.std.proofs.Common.{◌≡◌, length}
+use Rattle.std.proofs.Common.{◌≡◌}
 use Rattle.log_spec.specs.Checksum.{sum_of_pairs}
 use Rattle.wal_frames.specs.Front.{words_of}
 use Rattle.wal_frames.proofs.sum.sum_step.Given as goal

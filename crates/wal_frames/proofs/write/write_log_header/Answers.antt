@@ -1,7 +1,5 @@
-use Rattle.std.proofs.Common.{◌≡◌, ◌+◌, ◌≤◌, List, ℕ, sym, ◌∙◌, ap, arith, take, length, refl}
-use Rattle.page_spec.specs.Bytes.{u32_at}
+use Rattle.std.proofs.Common.{◌∙◌, arith}
 use Rattle.page_spec.proofs.BytesLaws.{u32_at-below, take-below, differs-trans}
-use Rattle.log_spec.specs.Checksum.{checksum}
 use Rattle.wal_frames.proofs.Written.{Written, signed_written, told_written, ours_written}
 use Rattle.wal_frames.proofs.write.write_log_header.Goals as goal
 
