@@ -8,11 +8,7 @@ mod found;
 mod header;
 mod read;
 mod scan;
-#[cfg(test)]
-mod scan_tests;
 mod sum;
-#[cfg(test)]
-mod tests;
 mod write;
 
 pub use found::{Accepted, ScanFault};

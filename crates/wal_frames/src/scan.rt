@@ -99,6 +99,7 @@ fn next_frame<D: Disk>(
     ensures loans { D.loans disk.new ≡ D.loans disk.old }
     ensures journal_answer { D.journal_answer disk.new ≡ D.journal_answer disk.old }
     ensures attached { D.attached disk.new ≡ D.attached disk.old }
+    ensures named { D.named disk.new ≡ D.named disk.old }
     ensures told { D.told disk.new ≡ D.told disk.old }
 {
     if size - at < frame.len() as u64 {
@@ -141,6 +142,7 @@ fn scan<D: Disk>(
     ensures loans { D.loans disk.new ≡ D.loans disk.old }
     ensures journal_answer { D.journal_answer disk.new ≡ D.journal_answer disk.old }
     ensures attached { D.attached disk.new ≡ D.attached disk.old }
+    ensures named { D.named disk.new ≡ D.named disk.old }
     ensures told { D.told disk.new ≡ D.told disk.old }
 {
     let mut room = [0u8; LONGEST_FRAME];
@@ -183,6 +185,7 @@ fn read_front<D: Disk>(disk: &mut D, file: File, size: u64, log: u8) -> Result<F
     ensures loans { D.loans disk.new ≡ D.loans disk.old }
     ensures journal_answer { D.journal_answer disk.new ≡ D.journal_answer disk.old }
     ensures attached { D.attached disk.new ≡ D.attached disk.old }
+    ensures named { D.named disk.new ≡ D.named disk.old }
     ensures told { D.told disk.new ≡ D.told disk.old }
 {
     if size < 32 {
@@ -210,6 +213,7 @@ pub fn accepted<D: Disk>(alloc: Global, disk: &mut D, log: u8) -> Result<Accepte
     ensures loans { D.loans disk.new ≡ D.loans disk.old }
     ensures journal_answer { D.journal_answer disk.new ≡ D.journal_answer disk.old }
     ensures attached { D.attached disk.new ≡ D.attached disk.old }
+    ensures named { D.named disk.new ≡ D.named disk.old }
     ensures told { D.told disk.new ≡ D.told disk.old }
 {
     let file = log_file(log);

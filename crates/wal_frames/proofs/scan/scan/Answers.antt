@@ -25,6 +25,7 @@ loop-pages-preserved g c =
       faults = omega (arith, c.next_frame.ensures.faults, loop.invariant.faults);
       loans = c.next_frame.ensures.loans ∙ loop.invariant.loans;
       journal_answer = c.next_frame.ensures.journal_answer ∙ loop.invariant.journal_answer;
+      named = c.next_frame.ensures.named ∙ loop.invariant.named;
       scanned =
           rw (c.frame_size-frame_size.ensures.value, c.in_ok-add_page.ensures.ok)
           (if_some_2 _ _
@@ -48,6 +49,7 @@ loop-pages-preserved-then-frame-ne0 g c =
       faults = omega (arith, c.next_frame.ensures.faults, loop.invariant.faults);
       loans = c.next_frame.ensures.loans ∙ loop.invariant.loans;
       journal_answer = c.next_frame.ensures.journal_answer ∙ loop.invariant.journal_answer;
+      named = c.next_frame.ensures.named ∙ loop.invariant.named;
       scanned =
           rw (c.frame_size-frame_size.ensures.value, c.in_ok-add_page.ensures.ok)
           (if_some_2 _ _

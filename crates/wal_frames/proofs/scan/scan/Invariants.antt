@@ -15,6 +15,7 @@ invariant-loop-pages g l = record {
   faults : g.D.Disk.faults l.fn.disk ≤ g.D.Disk.faults l.disk;
   loans : g.D.Disk.loans l.disk ≡ g.D.Disk.loans l.fn.disk;
   journal_answer : g.D.Disk.journal_answer l.disk ≡ g.D.Disk.journal_answer l.fn.disk;
+  named : g.D.Disk.named l.disk ≡ g.D.Disk.named l.fn.disk;
   scanned : IfSome (g.D.Disk.told l.fn.disk) (λ told. (frames : List Frame)
       × Scanned (content (reads told) l.fn.file) (fields_for l.fn.header) frames l.at (words_of l.sum) l.kept l.kept_size (words_of l.kept_sum)
       × (l.pages.items ≡ page_numbers frames));

@@ -1,4 +1,4 @@
-use crate::{Front, LogHeader, Sum, read_log_header, sum_step, write_log_header};
+use wal_frames::{Front, LogHeader, Sum, read_log_header, sum_step, write_log_header};
 
 /// The log that sqlite3 3.40.1 writes of `PRAGMA page_size=512; PRAGMA journal_mode=WAL; CREATE TABLE t(a);`, copied
 /// while the database is open: a header and two frames, in 1,104 bytes. These are its bytes that aren't 0, with the

@@ -1,11 +1,11 @@
 // Logs and what is accepted of them. A plain program in another language summed their headers and frames.
 ghost use Rattle.std.specs.Prelude.{◌≡◌, ◌⊎◌};
 
-use crate::{Accepted, Front, LogHeader, ScanFault, Sum, accepted};
 use disk_face::{Disk, File};
 use disk_mem::{Call, Fail, MemDisk};
 use std::alloc::{AllocError, Global};
 use std::test;
+use wal_frames::{Accepted, Front, LogHeader, ScanFault, Sum, accepted};
 
 /// A header of log 1, of generation 1, for pages of 512 bytes.
 const HEADER: [u8; 32] = *b"\x37\x7f\x06\x83\x05\x8b\x63\x48\x00\x00\x02\x00\x00\x00\x00\x01\
