@@ -76,60 +76,60 @@ fn a_crash_leaves_what_was_picked(rt: HostRuntime) -> Result<(), test::Fail> {
 
 fn one_write(alloc: Global, pick: &[u8], want: &[u8]) -> Result<bool, Failed> {
     let mut trial = Trial::new(alloc, None)?;
-    trial.write(File::Log1, 0, b"abc");
+    trial.write(File::Log1, 0, b"abc")?;
     trial.leaves(alloc, pick, want)
 }
 
 fn synced_before_a_write(alloc: Global) -> Result<bool, Failed> {
     let mut trial = Trial::new(alloc, None)?;
-    trial.write(File::Log1, 0, b"abc");
-    trial.sync(File::Log1);
-    trial.write(File::Log1, 2, b"d");
+    trial.write(File::Log1, 0, b"abc")?;
+    trial.sync(File::Log1)?;
+    trial.write(File::Log1, 2, b"d")?;
     trial.leaves(alloc, b"xyz", b"main,abx,")
 }
 
 fn another_synced(alloc: Global) -> Result<bool, Failed> {
     let mut trial = Trial::new(alloc, None)?;
-    trial.write(File::Log1, 0, b"abc");
-    trial.sync(File::Log2);
+    trial.write(File::Log1, 0, b"abc")?;
+    trial.sync(File::Log2)?;
     trial.leaves(alloc, b"xyz", b"main,xyz,")
 }
 
 fn overlapping(alloc: Global) -> Result<bool, Failed> {
     let mut trial = Trial::new(alloc, None)?;
-    trial.write(File::Main, 0, b"XX");
-    trial.write(File::Main, 1, b"YY");
+    trial.write(File::Main, 0, b"XX")?;
+    trial.write(File::Main, 1, b"YY")?;
     trial.leaves(alloc, b"1234", b"123n,,")
 }
 
 fn longer(alloc: Global) -> Result<bool, Failed> {
     let mut trial = Trial::new(alloc, None)?;
-    trial.write(File::Main, 3, b"Nex");
+    trial.write(File::Main, 3, b"Nex")?;
     trial.leaves(alloc, b"12", b"mai12x,,")
 }
 
 fn in_all_files(alloc: Global) -> Result<bool, Failed> {
     let mut trial = Trial::new(alloc, None)?;
-    trial.write(File::Log2, 0, b"l");
-    trial.write(File::Main, 1, b"A");
-    trial.write(File::Log1, 0, b"k");
+    trial.write(File::Log2, 0, b"l")?;
+    trial.write(File::Main, 1, b"A")?;
+    trial.write(File::Log1, 0, b"k")?;
     trial.leaves(alloc, b"123", b"m1in,2,3")
 }
 
 fn refused(alloc: Global, pick: &[u8], want: &[u8]) -> Result<bool, Failed> {
     let mut trial = Trial::new(alloc, Some(SECOND_WRITE))?;
-    trial.write(File::Main, 0, b"M");
-    trial.write(File::Main, 2, b"IN");
-    trial.write(File::Main, 1, b"A");
+    trial.write(File::Main, 0, b"M")?;
+    let _ = trial.write(File::Main, 2, b"IN");
+    trial.write(File::Main, 1, b"A")?;
     trial.leaves(alloc, pick, want)
 }
 
 fn unsynced(alloc: Global) -> Result<bool, Failed> {
     let mut trial = Trial::new(alloc, Some(FIRST_SYNC))?;
-    trial.write(File::Log1, 0, b"abc");
-    trial.sync(File::Log1);
-    trial.write(File::Log2, 0, b"d");
-    trial.sync(File::Log2);
+    trial.write(File::Log1, 0, b"abc")?;
+    let _ = trial.sync(File::Log1);
+    trial.write(File::Log2, 0, b"d")?;
+    trial.sync(File::Log2)?;
     trial.leaves(alloc, b"xyzw", b"main,xyz,d")
 }
 
@@ -185,14 +185,16 @@ impl Trial {
         Ok(Trial { disk })
     }
 
-    fn write(&mut self, file: File, at: u64, piece: &[u8]) {
+    fn write(&mut self, file: File, at: u64, piece: &[u8]) -> Result<(), Failed> {
         if at <= self.disk.file(file).len() as u64 {
-            let _ = self.disk.write_at(file, at, piece);
+            self.disk.write_at(file, at, piece)
+        } else {
+            Err(Failed)
         }
     }
 
-    fn sync(&mut self, file: File) {
-        let _ = self.disk.sync(file);
+    fn sync(&mut self, file: File) -> Result<(), Failed> {
+        self.disk.sync(file)
     }
 
     fn read(&mut self, at: u64, buf: &mut [u8]) -> bool {
