@@ -10,3 +10,5 @@ pub use plain::Plain;
 
 #[cfg(test)]
 mod shared;
+#[cfg(test)]
+mod tests;
