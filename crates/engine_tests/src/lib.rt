@@ -8,3 +8,5 @@ mod page_lines;
 mod shared;
 #[cfg(test)]
 mod shelf;
+#[cfg(test)]
+mod sizes;
