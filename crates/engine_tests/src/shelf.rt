@@ -3,8 +3,8 @@ ghost use Rattle.std.specs.Prelude.{◌≡◌, ℕ, ◌-◌, ◌^◌, ◌<◌, �
 ghost use Rattle.std.proofs.Common.{rules};
 ghost use Rattle.page_spec.specs.PageMap.{page_at};
 
-use page_face::{EditPages, FetchFault, Pages, PutPages, ReadSet};
 use disk_face::Bytes;
+use page_face::{EditPages, FetchFault, Pages, PutPages, ReadSet};
 use sqlite_items::Items;
 use std::alloc::{AllocError, Global};
 use std::test::Fail;
