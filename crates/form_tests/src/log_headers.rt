@@ -2,7 +2,7 @@ use wal_frames::{Front, LogHeader, Sum, read_log_header, sum_step, write_log_hea
 
 /// The log that sqlite3 3.40.1 writes of `PRAGMA page_size=512; PRAGMA journal_mode=WAL; CREATE TABLE t(a);`, copied
 /// while the database is open: a header and two frames, in 1,104 bytes. These are its bytes that aren't 0, with the
-/// offset of each row of them.
+/// offset of each row of them. The crate's `stock_log.py` makes such logs.
 const STOCK: [(usize, &[u8]); 3] = [
     (
         0,
