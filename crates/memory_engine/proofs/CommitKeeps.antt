@@ -26,7 +26,7 @@ use Rattle.page_face.specs.Prepared.{submitted, change_in, IsFit, IsGood}
 use Rattle.page_face.specs.Pins.{IsLive, KeepsPins}
 use Rattle.memory_engine.specs.Plain.{PlainState, IsPlain, Holds, PlainLive, PlainRuns, MayAdd, newest_of, plain_seen, up_to, committed_state}
 use Rattle.memory_engine.specs.PlainLaws.{held}
-use Rattle.memory_engine.proofs.Moments.{later_same}
+use Rattle.memory_engine.proofs.Moments.{found_here}
 use Rattle.memory_engine.proofs.PlainCommits.{plain_more, agree_since, more_cases, newest_whole, pages_are, found_at, uncounted_at, may_add}
 
 -- a list with one more is one longer
@@ -206,17 +206,29 @@ pub answers_more : {M : Type 0} (plain : PlainState) (prepared : Prepared M) (wh
     → IsClear (plain_seen plain) (submitted prepared who) → (result : Result Receipt (CommitFault × Prepared M)) (new : PlainState)
     → Added plain prepared who result new
     → MatchResult result
+    (λ receipt. Accepts (plain_seen plain) (submitted prepared who) receipt (plain_seen new))
+    (λ refusal. (refusal.1 ≡ prepared) × Refuses (plain_seen plain) (submitted prepared who) refusal.0 (plain_seen new))
+answers_more plain prepared who may clear (Ok receipt) new added =
+    rw (added.0, added.1) (is_committed plain prepared who may clear)
+answers_more plain prepared who may clear (Err refusal) new added =
+    (added.1, rw added.0 (clear, ap plain_seen added.2))
+
+-- an answer that comes at once is found
+pub answers_found : {M : Type 0} (plain : PlainState) (prepared : Prepared M) (who : Who)
+    (result : Result Receipt (CommitFault × Prepared M)) (new : PlainState)
+    → MatchResult result
+    (λ receipt. Accepts (plain_seen plain) (submitted prepared who) receipt (plain_seen new))
+    (λ refusal. (refusal.1 ≡ prepared) × Refuses (plain_seen plain) (submitted prepared who) refusal.0 (plain_seen new))
+    → MatchResult result
     (λ receipt. Found (Unit {0}) (Unit {0}) (plain_seen plain) (λ mid. Accepts mid (submitted prepared who) receipt (plain_seen new)))
     (λ refusal. (refusal.1 ≡ prepared)
     × Found (Unit {0}) (Unit {0}) (plain_seen plain) (λ mid. Refuses mid (submitted prepared who) refusal.0 (plain_seen new)))
-answers_more plain prepared who may clear (Ok receipt) new added =
-    let told : Accepts (plain_seen plain) (submitted prepared who) receipt (plain_seen new) =
-    rw (added.0, added.1) (is_committed plain prepared who may clear) in
-    (plain_seen plain, later_same (Unit {0}) (Unit {0}) (plain_seen plain), told)
-answers_more plain prepared who may clear (Err refusal) new added =
-    let told : Refuses (plain_seen plain) (submitted prepared who) refusal.0 (plain_seen new) =
-    rw added.0 (clear, ap plain_seen added.2) in
-    (added.1, (plain_seen plain, later_same (Unit {0}) (Unit {0}) (plain_seen plain), told))
+answers_found plain prepared who (Ok receipt) new told =
+    found_here (Unit {0}) (Unit {0}) (plain_seen plain) (λ mid. Accepts mid (submitted prepared who) receipt (plain_seen new)) told
+answers_found plain prepared who (Err refusal) new told = (
+  told.0,
+  found_here (Unit {0}) (Unit {0}) (plain_seen plain) (λ mid. Refuses mid (submitted prepared who) refusal.0 (plain_seen new)) told.1,
+)
 
 -- the pins after it
 pub pins_after : {M : Type 0} (plain : PlainState) (prepared : Prepared M) (who : Who) → MayAdd plain prepared

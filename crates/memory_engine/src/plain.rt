@@ -77,6 +77,39 @@ impl<M: Means> Plain<M> {
 }
 
 impl<M: Means> Plain<M> {
+    ghost use Rattle.std.specs.Prelude.{slice_get};
+    ghost use Rattle.memory_engine.specs.Plain.{PlainLive, PlainRuns};
+
+    /// Commits a transaction of a pin that holds, or says why not and hands the transaction back as it was.
+    ///
+    /// Unlike [`Engine::commit`] it asks nothing of what the change means: a run goes on where the change is good for it.
+    /// So an engine over this one may call it after others committed, whose runs it need not know.
+    pub fn hand_in(
+        &mut self,
+        pin: &Pin,
+        prepared: Prepared<M>,
+        who: Who,
+    ) -> Result<Receipt, (CommitFault, Prepared<M>)>
+        requires live { IsLive PlainLive self.old pin.now }
+        requires fit { IsFit (plain_seen self.old) pin.now prepared }
+        ensures answer { MatchResult result
+            (λ receipt. Accepts (plain_seen self.old) (submitted prepared who) receipt (plain_seen self.new))
+            (λ refusal. (refusal.1 ≡ prepared) × Refuses (plain_seen self.old) (submitted prepared who) refusal.0 (plain_seen self.new)) }
+        ensures pins { KeepsPins PlainLive (λ plain pin. slice_get plain.maps pin.n) self.old self.new }
+        ensures runs { (first : PageMap) → PlainRuns (M.sound first) (M.leads first) first self.old
+            → IfSome (slice_get self.old.maps pin.now.n) (λ snapshot. IsGood (M.sound first) (M.leads first) snapshot prepared)
+            → PlainRuns (M.sound first) (M.leads first) first self.new }
+    {
+        let _ = pin;
+        if !prepared.wrote {
+            return Ok(Receipt::ReadOnly(prepared.snap));
+        }
+        match self.bar(&prepared, who) {
+            Some(fault) => Err((fault, prepared)),
+            None => self.add(prepared, who),
+        }
+    }
+
     // What bars a transaction that wrote from being committed.
     fn bar(&self, prepared: &Prepared<M>, who: Who) -> Option<CommitFault>
         requires wrote { prepared.now.wrote ≡ true }
@@ -298,13 +331,7 @@ impl<M: Means> Engine<M> for Plain<M> {
         ensures alone { ⟦<Plain<M> as Engine<M>>⟧.alone self.old → ⟦<Plain<M> as Engine<M>>⟧.alone self.new }
         ensures loans { ⟦<Plain<M> as Engine<M>>⟧.loans self.new ≡ ⟦<Plain<M> as Engine<M>>⟧.loans self.old }
     {
-        if !prepared.wrote {
-            return Ok(Receipt::ReadOnly(prepared.snap));
-        }
-        match self.bar(&prepared, who) {
-            Some(fault) => Err((fault, prepared)),
-            None => self.add(prepared, who),
-        }
+        self.hand_in(pin, prepared, who)
     }
 
     fn ckpt(&mut self) -> Result<Ckpt, Failed> {

@@ -1,32 +1,9 @@
-use Rattle.memory_engine.proofs.PlainCommits.{may_add}
-use Rattle.memory_engine.proofs.CommitKeeps.{added_is, answers_more, pins_after, runs_after}
+use Rattle.memory_engine.proofs.CommitKeeps.{answers_found}
 use Rattle.memory_engine.proofs.plain.PlainEngine.commit.Goals as goal
 
-pub bar-requires-clause-add : goal.bar-requires-clause-add
-bar-requires-clause-add g c = may_add c.args.self.now c.args.pin.now c.args.prepared c.requires.live c.requires.fit
+pub returns-clause-answer : goal.returns-clause-answer
+returns-clause-answer g c =
+    answers_found c.args.self.now c.args.prepared c.args.who c.hand_in.result c.hand_in.new.self c.hand_in.ensures.answer
 
-pub add-requires : goal.add-requires
-add-requires g c = record { add = may_add c.args.self.now c.args.pin.now c.args.prepared c.requires.live c.requires.fit }
-
-pub returns-in-None-clause-answer : goal.returns-in-None-clause-answer
-returns-in-None-clause-answer g c =
-    answers_more c.args.self.now c.args.prepared c.args.who
-    (may_add c.args.self.now c.args.pin.now c.args.prepared c.requires.live c.requires.fit)
-    c.in-None.ensures c.add.result c.add.new.self
-    (added_is c.args.self.now c.args.prepared c.args.who c.add.result c.add.new.self c.add.ensures.ok c.add.ensures.err)
-
-pub returns-in-None-clause-pins : goal.returns-in-None-clause-pins
-returns-in-None-clause-pins g c =
-    pins_after c.args.self.now c.args.prepared c.args.who
-    (may_add c.args.self.now c.args.pin.now c.args.prepared c.requires.live c.requires.fit)
-    c.add.result c.add.new.self
-    (added_is c.args.self.now c.args.prepared c.args.who c.add.result c.add.new.self c.add.ensures.ok c.add.ensures.err)
-
-pub returns-in-None-clause-runs : goal.returns-in-None-clause-runs
-returns-in-None-clause-runs g c = λ first runs.
-    runs_after (g.M.Means.sound first) g.M.Means.leads first
-    (λ before between after some others one two. g.M.Means.joins first before between after some others one two)
-    c.args.self.now c.args.pin.now c.args.prepared c.args.who c.requires.live c.requires.fit c.in-None.ensures
-    (c.requires.good first runs) c.add.result c.add.new.self
-    (added_is c.args.self.now c.args.prepared c.args.who c.add.result c.add.new.self c.add.ensures.ok c.add.ensures.err)
-    runs
+pub returns-clause-runs : goal.returns-clause-runs
+returns-clause-runs g c = λ first runs. c.hand_in.ensures.runs first runs (c.requires.good first runs)
