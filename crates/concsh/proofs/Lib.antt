@@ -1,9 +1,1 @@
-pub mod Written
-pub mod Ranges
-pub mod Advancing
-pub mod Words
-pub mod Fronts
-pub mod Standing
-pub mod Exits
-pub mod Serial
-mod WorkedRuns
+mod Words

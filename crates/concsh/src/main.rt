@@ -1,10 +1,6 @@
 //! Runs a script of lines on standard input, and writes the reply to each on standard output.
 #![tactic(auto)]
 
-mod lines;
-mod output;
-mod pages;
-mod reply;
 #[cfg(test)]
 mod tests;
 mod top;

@@ -4,11 +4,10 @@ ghost use Rattle.disk_face.specs.Faults.{Rose};
 ghost use Rattle.disk_face.specs.Sink.{Puts};
 ghost use Rattle.run_spec.specs.Serial.{IsSerialFrom};
 ghost use Rattle.run_spec.specs.World.{zeros, start, after};
-ghost use Rattle.concsh.specs.Outcome.{IsPages, acts_run, status_of, words_refused, PutsFront, Ran};
+ghost use Rattle.page_runs.specs.Outcome.{IsPages, acts_run, status_of, words_refused, PutsFront, Ran};
 
-use crate::output::write_all;
-use crate::pages::run_pages;
 use disk_face::{Disk, Failed, Salts, Sink, Source, Word};
+use page_runs::{run_pages, write_all};
 use std::alloc::Global;
 
 /// Runs what the words ask for, and gives the status that the program ends with.

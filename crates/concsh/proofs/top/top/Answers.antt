@@ -1,4 +1,4 @@
-use Rattle.concsh.proofs.Serial.{serial_told}
+use Rattle.page_runs.proofs.Serial.{serial_told}
 use Rattle.concsh.proofs.top.top.Goals as goal
 
 pub returns-then-is_pages-clause-serial : goal.returns-then-is_pages-clause-serial

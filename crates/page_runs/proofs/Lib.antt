@@ -1,0 +1,8 @@
+pub mod Written
+pub mod Ranges
+pub mod Advancing
+pub mod Fronts
+pub mod Standing
+pub mod Exits
+pub mod Serial
+mod WorkedRuns

@@ -1,0 +1,13 @@
+//! Runs of page lines: from the bytes of a script in a source to the bytes of the replies in a sink.
+//!
+//! `specs/Outcome.antt` says what a script writes, and with which status its run ends.
+#![tactic(auto)]
+
+mod lines;
+mod output;
+mod pages;
+mod reply;
+
+pub use output::write_all;
+pub use pages::run_pages;
+pub use reply::told_text;

@@ -1,0 +1,192 @@
+// A run of page lines over pages in memory.
+ghost use Rattle.std.specs.Prelude.{◌≡◌, ℕ, ◌≤◌, [], ◌∷◌, ◌⊎◌, IfSome, OnOk, OnErr, Contains};
+ghost use Rattle.disk_face.specs.Faults.{Rose};
+ghost use Rattle.disk_face.specs.Sink.{Puts};
+ghost use Rattle.run_spec.specs.Reply.{reply_text, session_of};
+ghost use Rattle.run_spec.specs.World.{World, step, after};
+ghost use Rattle.acts.specs.InMemory.{IsAt};
+ghost use Rattle.run_spec.specs.Range.{IsInRange};
+ghost use Rattle.page_runs.specs.Outcome.{act_in, acts_in, page_act, replies, refused_text, source_failed, PutsFront, Ran};
+
+use crate::lines::{LineReader, Next};
+use crate::output::write_all;
+use crate::reply::{refused_line, told_text};
+use acts::InMemory;
+use disk_face::{Failed, Sink, Source};
+use run_spec::Act;
+use script::{Act2, Form, Line, line_text, read_line};
+use std::alloc::Global;
+
+/// Why a line was not answered.
+#[derive(Clone, Copy, Debug, PartialEq, Eq)]
+enum Unanswered {
+    /// The sink failed.
+    Sink,
+    /// Memory ran out.
+    Memory,
+}
+
+/// Runs the lines that the source gives, each of which is answered before the next one is taken.
+/// The statuses are those of [`top`](crate::top::top).
+pub fn run_pages<S: Source, K: Sink>(alloc: Global, src: &mut S, out: &mut K) -> u8
+    ensures statuses { Contains (0 ∷ 1 ∷ 3 ∷ 4 ∷ 7 ∷ []) result }
+    ensures source { result ≡ 3 → Rose (S.faults src.old) (S.faults src.new) }
+    ensures sink { result ≡ 4 → Rose (K.faults out.old) (K.faults out.new) }
+    ensures script { IfSome (S.left src.old) (λ script. Ran script result (S.left src.new) (K.written out.old) (K.written out.new)) }
+    ensures faults { (S.faults src.old ≤ S.faults src.new) × (K.faults out.old ≤ K.faults out.new) }
+    ensures loans { (S.loans src.new ≡ S.loans src.old) × (K.loans out.new ≡ K.loans out.old) }
+{
+    let Ok(mut memory) = InMemory::new(alloc) else {
+        return 7;
+    };
+    let Ok(mut lines) = LineReader::new(alloc) else {
+        return 7;
+    };
+    let mut text = Vec::new(alloc);
+    let mut number: u64 = 1;
+    'lines: loop {
+        match lines.advance(src) {
+            Ok(Next::Line) => {}
+            Ok(Next::End) => return 0,
+            Ok(Next::Refused) => return say_refused(number, &mut text, out),
+            Err(Failed) => return say_failed(out),
+        }
+        let Some(line) = read_line(line_text(lines.line()), Form::Pages) else {
+            return say_refused(number, &mut text, out);
+        };
+        match run_line(&mut memory, line, &mut text, out) {
+            Ok(()) => number += 1,
+            Err(Unanswered::Sink) => return 4,
+            Err(Unanswered::Memory) => return 7,
+        }
+    }
+}
+
+/// Does what the line asks for, if it asks for something, and writes the reply, whose text is made in this buffer.
+/// After an error a front of the reply is written.
+fn run_line<K: Sink>(
+    memory: &mut InMemory,
+    line: Line,
+    text: &mut Vec<u8>,
+    out: &mut K,
+) -> Result<(), Unanswered>
+    requires range { IfSome (act_in line) IsInRange }
+    requires stands { (world : World) × IsAt memory.old world }
+    ensures ok { (world : World) → IsAt memory.old world → OnOk result (IsAt memory.new (after world (acts_in line))
+        × Puts (K.written out.old) (replies world (acts_in line)) (K.written out.new)) }
+    ensures err { (world : World) → IsAt memory.old world
+        → OnErr result (PutsFront (K.written out.old) (replies world (acts_in line)) (K.written out.new)) }
+    ensures sink { result ≡ Err Unanswered.Sink → Rose (K.faults out.old) (K.faults out.new) }
+    ensures faults { K.faults out.old ≤ K.faults out.new }
+    ensures loans { K.loans out.new ≡ K.loans out.old }
+{
+    match act_in(line) {
+        Some(act) => answer(memory, act, text, out),
+        None => Ok(()),
+    }
+}
+
+/// The act that a line asks for, if it asks for one.
+fn act_in(line: Line) -> Option<Act>
+    ensures { result ≡ act_in line }
+{
+    match line {
+        Line::Empty => None,
+        Line::Page(said) => Some(page_act(said)),
+        Line::Copy => Some(Act::Copy),
+        Line::Step => Some(Act::Step),
+        Line::Logs => Some(Act::Logs),
+    }
+}
+
+fn page_act(said: Act2) -> Act
+    ensures { result ≡ page_act said }
+{
+    match said {
+        Act2::Begin(session) => Act::Begin { session },
+        Act2::Read(session, page) => Act::Read { session, page },
+        Act2::Write(session, page, byte) => Act::Write {
+            session,
+            page,
+            byte,
+        },
+        Act2::Commit(session) => Act::Commit { session },
+        Act2::Rollback(session) => Act::Rollback { session },
+    }
+}
+
+fn session_of(act: Act) -> u32
+    ensures { result ≡ session_of act }
+{
+    match act {
+        Act::Begin { session }
+        | Act::Read { session, .. }
+        | Act::Write { session, .. }
+        | Act::Commit { session }
+        | Act::Rollback { session } => session,
+        Act::Copy | Act::Step | Act::Logs => 0,
+    }
+}
+
+/// Does what the act asks for, and writes the reply, whose text is made in this buffer.
+/// After an error a front of the reply is written.
+fn answer<K: Sink>(
+    memory: &mut InMemory,
+    act: Act,
+    text: &mut Vec<u8>,
+    out: &mut K,
+) -> Result<(), Unanswered>
+    requires range { IsInRange act }
+    requires stands { (world : World) × IsAt memory.old world }
+    ensures ok { (world : World) → IsAt memory.old world → OnOk result (IsAt memory.new (step world act).world
+        × Puts (K.written out.old) (reply_text (session_of act) (step world act).told) (K.written out.new)) }
+    ensures err { (world : World) → IsAt memory.old world
+        → OnErr result (PutsFront (K.written out.old) (reply_text (session_of act) (step world act).told) (K.written out.new)) }
+    ensures sink { result ≡ Err Unanswered.Sink → Rose (K.faults out.old) (K.faults out.new) }
+    ensures faults { K.faults out.old ≤ K.faults out.new }
+    ensures loans { K.loans out.new ≡ K.loans out.old }
+{
+    let Ok(told) = memory.act(act) else {
+        return Err(Unanswered::Memory);
+    };
+    text.clear();
+    if told_text(session_of(act), &told, text).is_err() {
+        return Err(Unanswered::Memory);
+    }
+    match write_all(out, text) {
+        Ok(()) => Ok(()),
+        Err(Failed) => Err(Unanswered::Sink),
+    }
+}
+
+/// Writes the last line of a run that refused its line of this number. The status is 1, or 4 where the sink failed, or 7.
+fn say_refused<K: Sink>(number: u64, text: &mut Vec<u8>, out: &mut K) -> u8
+    ensures said { ((result ≡ 1) × Puts (K.written out.old) (refused_text number) (K.written out.new))
+        ⊎ (((result ≡ 4) ⊎ (result ≡ 7)) × PutsFront (K.written out.old) (refused_text number) (K.written out.new)) }
+    ensures sink { result ≡ 4 → Rose (K.faults out.old) (K.faults out.new) }
+    ensures faults { K.faults out.old ≤ K.faults out.new }
+    ensures loans { K.loans out.new ≡ K.loans out.old }
+{
+    text.clear();
+    if refused_line(number, text).is_err() {
+        return 7;
+    }
+    match write_all(out, text) {
+        Ok(()) => 1,
+        Err(Failed) => 4,
+    }
+}
+
+/// Writes the last line of a run whose source failed. The status is 3, or 4 where the sink failed.
+fn say_failed<K: Sink>(out: &mut K) -> u8
+    ensures said { ((result ≡ 3) × Puts (K.written out.old) source_failed (K.written out.new))
+        ⊎ ((result ≡ 4) × PutsFront (K.written out.old) source_failed (K.written out.new)) }
+    ensures sink { result ≡ 4 → Rose (K.faults out.old) (K.faults out.new) }
+    ensures faults { K.faults out.old ≤ K.faults out.new }
+    ensures loans { K.loans out.new ≡ K.loans out.old }
+{
+    match write_all(out, b"source failed\n") {
+        Ok(()) => 3,
+        Err(Failed) => 4,
+    }
+}
