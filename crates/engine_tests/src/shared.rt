@@ -1,12 +1,12 @@
 // An engine to which others commit between its calls, which shows that the engine's face can be met so.
-ghost use Rattle.std.specs.Prelude.{◌≡◌, ℕ, ◌+◌, ◌<◌, ◌≤◌, vec_len, List, [], ◌∷◌, ◌++◌, length, replicate, IfOk, IfSome, MatchOption, MatchResult, All};
+ghost use Rattle.std.specs.Prelude.{◌≡◌, ◌<◌, ◌≤◌, vec_len, List, [], ◌∷◌, ◌++◌, length, replicate, IfOk, IfSome, MatchOption, MatchResult};
 ghost use Rattle.std.specs.Vec.{vec_capacity};
 ghost use Rattle.page_spec.specs.PageMap.{PageMap};
 ghost use Rattle.run_spec.specs.declared.pins.Pin.{Pin};
 ghost use Rattle.run_spec.specs.PageLines.{write_text};
 ghost use Rattle.run_spec.specs.Seen.{Found, Accepts, Refuses};
 ghost use Rattle.run_spec.specs.World.{zeros};
-ghost use Rattle.page_face.specs.Pins.{IsLive, KeepsPins, AddsPin, TakesPin};
+ghost use Rattle.page_face.specs.Pins.{IsLive, KeepsPins};
 ghost use Rattle.page_face.specs.Prepared.{submitted, IsFit, IsGood};
 ghost use Rattle.memory_engine.specs.Plain.{IsPlain, PlainLive, plain_seen};
 ghost use Rattle.engine_tests.specs.Shared.{shared_seen, SharedLive, plain_map, LinesRun, OthersCame, SomeCommitted, IsWrite};
