@@ -2,10 +2,11 @@
 //
 // The expected answers are worked by hand from the rules. Of all answers these never come here: `Disk` and `Stopped`, since no disk
 // can fail; `Size`, since 16 pages are far below the limit; and of a checkpoint all but `Idle`, since the engine keeps no logs.
-ghost use Rattle.std.specs.Prelude.{◌≡◌, IfOk, All, true};
+ghost use Rattle.std.specs.Prelude.{◌≡◌, ◌≤◌, [], IfOk, All, true};
 ghost use Rattle.run_spec.specs.Range.{IsInRange};
 
 use acts::{Act, InMemory, Told, engine_of_zeros, play};
+use page_face::{Engine, Raw};
 use run_spec::{Ckpt, Logs, Receipt};
 use std::alloc::{AllocError, Global};
 use std::process::Abort;
@@ -78,8 +79,22 @@ fn acts_of(rt: &impl Abort, alloc: Global, rows: &[(Act, Told)]) -> Result<Vec<A
 // Plays the acts of these rows over 16 pages of zeros. Each is answered as its row says.
 fn answered(rt: &impl Abort, alloc: Global, rows: &[(Act, Told)]) -> Result<(), AllocError> {
     let mut engine = engine_of_zeros(alloc)?;
+    answered_by(rt, alloc, &mut engine, rows)
+}
+
+/// Plays the acts of these rows over an engine. Each is answered as its row says.
+pub fn answered_by<E: Engine<Raw>>(
+    rt: &impl Abort,
+    alloc: Global,
+    engine: &mut E,
+    rows: &[(Act, Told)],
+) -> Result<(), AllocError>
+    requires free { E.free engine.old }
+    requires pages { 16 ≤ (E.seen engine.old).size }
+    requires live { E.live engine.old [] }
+{
     let acts = acts_of(rt, alloc, rows)?;
-    let answers = play(alloc, &mut engine, &acts)?;
+    let answers = play(alloc, engine, &acts)?;
     assert_eq!(rt; answers.len(), rows.len());
     for (at, row) in rows.iter().enumerate() {
         assert_eq!(rt; answers[at], row.1, "at act {at}");
@@ -87,15 +102,18 @@ fn answered(rt: &impl Abort, alloc: Global, rows: &[(Act, Told)]) -> Result<(), 
     Ok(())
 }
 
-fn begin(session: u32) -> Act {
+/// A session begins a transaction.
+pub fn begin(session: u32) -> Act {
     Act::Begin { session }
 }
 
-fn read(session: u32, page: u32) -> Act {
+/// A session reads a page.
+pub fn read(session: u32, page: u32) -> Act {
     Act::Read { session, page }
 }
 
-fn write(session: u32, page: u32, byte: u8) -> Act {
+/// A session sets each byte of a page.
+pub fn write(session: u32, page: u32, byte: u8) -> Act {
     Act::Write {
         session,
         page,
@@ -103,7 +121,8 @@ fn write(session: u32, page: u32, byte: u8) -> Act {
     }
 }
 
-fn commit(session: u32) -> Act {
+/// A session commits.
+pub fn commit(session: u32) -> Act {
     Act::Commit { session }
 }
 
@@ -111,7 +130,8 @@ fn rollback(session: u32) -> Act {
     Act::Rollback { session }
 }
 
-fn busy(page: u32, commit: u64) -> Told {
+/// The answer to who read a page that this commit wrote.
+pub fn busy(page: u32, commit: u64) -> Told {
     Told::Busy { page, commit }
 }
 

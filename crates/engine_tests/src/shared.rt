@@ -1,134 +1,81 @@
-// An engine whose history others extend between its calls, which shows that the engine's face can be met so.
-ghost use Rattle.std.specs.Prelude.{◌≡◌, ℕ, ◌+◌, ◌<◌, ◌≤◌, vec_len, true, List, [], ◌∷◌, ◌++◌, length, Option, IfOk, IfErr, IfSome, MatchOption, MatchResult};
-ghost use Rattle.std.proofs.Common.{rules};
+// An engine to which others commit between its calls, which shows that the engine's face can be met so.
+ghost use Rattle.std.specs.Prelude.{◌≡◌, ◌<◌, ◌≤◌, vec_len, List, [], ◌∷◌, ◌++◌, length, replicate, IfOk, IfSome, MatchOption, MatchResult};
 ghost use Rattle.std.specs.Vec.{vec_capacity};
 ghost use Rattle.page_spec.specs.PageMap.{PageMap};
-ghost use Rattle.run_spec.specs.History.{SnapsBefore};
-ghost use Rattle.run_spec.specs.Seen.{Found, Accepts, Refuses, IsClear, commit_of};
 ghost use Rattle.run_spec.specs.declared.pins.Pin.{Pin};
+ghost use Rattle.run_spec.specs.PageLines.{write_text};
+ghost use Rattle.run_spec.specs.Seen.{Found, Accepts, Refuses};
+ghost use Rattle.run_spec.specs.World.{zeros};
 ghost use Rattle.page_face.specs.Pins.{IsLive, KeepsPins};
 ghost use Rattle.page_face.specs.Prepared.{submitted, IsFit, IsGood};
-ghost use Rattle.engine_tests.specs.Shared.{shared_seen, SharedLive, Extends, IsPrepared};
+ghost use Rattle.memory_engine.specs.Plain.{IsPlain, PlainLive, plain_seen};
+ghost use Rattle.engine_tests.specs.Shared.{shared_seen, SharedLive, plain_map, LinesRun, OthersCame, SomeCommitted, IsWrite};
 
-use disk_face::{Bytes, Failed};
-use memory_engine::{find_conflict, written_pages};
+use crate::page_lines::{answered_by, begin, busy, commit, read, write};
+use acts::{Told, engine_of_zeros};
+use disk_face::{Bytes, Failed, Txt};
+use memory_engine::Plain;
 use page_face::{
-    Ckpt, CommitFault, Engine, FetchFault, Lock, Logs, Means, Mode, PageImage, Pin, Prepared, Raw,
+    Ckpt, CommitFault, Engine, FetchFault, Logs, Means, Mode, PageImage, Pin, Prepared, Raw,
     ReadSet, Receipt, Who,
 };
-use run_spec::{Commit, Entry};
 use sqlite_items::Items;
 use std::alloc::{AllocError, Global};
-use std::marker::PhantomData;
+use std::marker::{Model, PhantomData};
 use std::test::Fail;
 
-// An engine of 16 pages of zeros. At the beginning of each call but `end` another session commits a write of page 2, as often as
-// `others` says. What it commits itself is in its history, and in none of its pages.
+// An engine in memory. At the beginning of each call but `end` another session commits a write of page 2, as long as it has
+// commits left to make.
 #[derive(Drop)]
 struct Shared {
     alloc: Global,
-    history: Vec<Commit>,
-    own: Vec<u64>,
-    others: u64,
+    plain: Plain<Raw>,
+    theirs: Vec<u64>,
+    left: u32,
+}
+
+impl Model for Shared {
+    ghost use Rattle.engine_tests.specs.Shared.{SharedState, IsShared};
+
+    ghost Value = { SharedState };
+
+    ghost view = { λ shared. record { plain = shared.plain; theirs = shared.theirs.items } };
+
+    ghost invariant = { λ shared. IsShared (record { plain = shared.plain; theirs = shared.theirs.items }) };
 }
 
 impl Shared {
-    // An engine with no commits, and so many that others will make.
-    fn new(alloc: Global, others: u64) -> Shared
-        ensures { result.history.items ≡ [] }
+    // An engine of 16 pages of zeros, and how many commits others will make. The error is want of memory.
+    fn new(alloc: Global, left: u32) -> Result<Shared, AllocError>
+        ensures pages { IfOk result (λ shared. 16 ≤ (shared_seen shared).size) }
+        ensures live { IfOk result (λ shared. SharedLive shared []) }
+        ensures runs { IfOk result (λ shared. LinesRun zeros shared.plain) }
     {
-        Shared {
+        let plain = engine_of_zeros(alloc)?;
+        Ok(Shared {
             alloc,
-            history: Vec::new(alloc),
-            own: Vec::new(alloc),
-            others,
-        }
+            plain,
+            theirs: Vec::new(alloc),
+            left,
+        })
     }
 
     // Another session commits, where it has a commit left to make and there is memory for it.
     fn others_commit(&mut self)
-        ensures history { Extends self.old.history.items self.new.history.items }
-        ensures own { self.new.own.items ≡ self.old.own.items }
+        ensures { OthersCame self.old self.new }
     {
-        if self.others == 0 {
+        if self.left == 0 || self.theirs.reserve(1).is_err() {
             return;
         }
-        self.others -= 1;
-        match commit_of_others(self.alloc, self.history.len() as u64) {
-            Ok(commit) => {
-                let _ = self.history.push(commit);
-            }
-            Err(_) => (),
+        self.left -= 1;
+        if let Some(number) = other_commits(self.alloc, &mut self.plain) {
+            push_reserved(&mut self.theirs, number);
         }
-    }
-
-    // What bars a transaction that wrote from being committed.
-    fn bar(&self, prepared: &Prepared<Raw>, who: Who) -> Option<CommitFault>
-        requires wrote { prepared.now.wrote ≡ true }
-        requires snap { prepared.now.snap ≤ length self.now.history.items }
-        requires fresh { prepared.now.fresh ≡ [] }
-        requires freed { prepared.now.freed ≡ [] }
-        ensures { MatchOption result (IsClear (shared_seen self.now.history.items self.now.own.items) (submitted prepared.now who))
-            (λ fault. Refuses (shared_seen self.now.history.items self.now.own.items) (submitted prepared.now who) fault
-            (shared_seen self.now.history.items self.now.own.items)) }
-    {
-        let found = find_conflict(
-            prepared.mode,
-            prepared.reads.pages(),
-            prepared.snap,
-            self.history.as_slice(),
-        );
-        if let Some((page, commit)) = found {
-            return Some(CommitFault::BusySnapshot { page, commit });
-        }
-        let frames = prepared.changed.as_slice().len() as u64 + 2;
-        if frames > 4_294_967_295 {
-            return Some(CommitFault::SizeLimit { pages: 16, frames });
-        }
-        None
-    }
-
-    // Adds a commit that nothing bars. The error is want of memory; it leaves all as it was and hands the transaction back.
-    fn add(
-        &mut self,
-        prepared: Prepared<Raw>,
-        who: Who,
-    ) -> Result<Receipt, (CommitFault, Prepared<Raw>)>
-        ensures ok { IfOk result (λ receipt. (receipt ≡ Receipt.At (length self.old.history.items + 1))
-            × (self.new.history.items ≡ self.old.history.items ++ commit_of (submitted prepared who) ∷ [])
-            × (self.new.own.items ≡ self.old.own.items ++ (length self.old.history.items + 1) ∷ [])) }
-        ensures err { IfErr result (λ refusal. (refusal.0 ≡ CommitFault.Memory) × (refusal.1 ≡ prepared)
-            × (self.new.history.items ≡ self.old.history.items) × (self.new.own.items ≡ self.old.own.items)) }
-    {
-        let number = self.history.len() as u64 + 1;
-        let wrote = match written_pages(self.alloc, prepared.changed.as_slice()) {
-            Ok(wrote) => wrote,
-            Err(_) => return Err((CommitFault::Memory, prepared)),
-        };
-        if self.history.reserve(1).is_err() || self.own.reserve(1).is_err() {
-            return Err((CommitFault::Memory, prepared));
-        }
-        let entry = Entry {
-            session: who.session,
-            ordinal: who.ordinal,
-            snap: prepared.snap,
-            statements: prepared.said,
-        };
-        push_reserved(
-            &mut self.history,
-            Commit {
-                entry,
-                wrote,
-                tail: prepared.tail,
-            },
-        );
-        push_reserved(&mut self.own, number);
-        Ok(Receipt::At(number))
     }
 }
 
-// Pushes an item for which there is room.
-fn push_reserved<T: Drop>(items: &mut Vec<T>, item: T)
+// Pushes a number for which there is room.
+fn push_reserved(items: &mut Vec<u64>, item: u64)
     requires { vec_len items.old < vec_capacity items.old }
     ensures { items.new.items ≡ items.old.items ++ item ∷ [] }
 {
@@ -138,32 +85,101 @@ fn push_reserved<T: Drop>(items: &mut Vec<T>, item: T)
     }
 }
 
-// A commit of another session that wrote pages 1 and 2, from the snapshot of this number.
-fn commit_of_others(alloc: Global, snap: u64) -> Result<Commit, AllocError>
-    ensures { IfOk result (λ commit. commit.entry.snap ≡ snap) }
+// A session commits a write of page 2. Answers the commit's number, or none where memory is short.
+fn other_commits(alloc: Global, plain: &mut Plain<Raw>) -> Option<u64>
+    requires whole { IsPlain plain.old }
+    ensures number { MatchOption result (plain_seen plain.new ≡ plain_seen plain.old) (λ number. SomeCommitted plain.old number plain.new) }
+    ensures pins { KeepsPins PlainLive plain_map plain.old plain.new }
+    ensures runs { (first : PageMap) → LinesRun first plain.old → LinesRun first plain.new }
 {
-    let entry = Entry {
+    let pin = plain.begin();
+    let number = commit_a_write(alloc, plain, &pin);
+    plain.end(pin);
+    number
+}
+
+// Commits a write of page 2 from this pin, whose byte tells the number of the commit (up to 255).
+fn commit_a_write(alloc: Global, plain: &mut Plain<Raw>, pin: &Pin) -> Option<u64>
+    requires live { IsLive PlainLive plain.old pin.now }
+    ensures number { MatchOption result (plain_seen plain.new ≡ plain_seen plain.old) (λ number. SomeCommitted plain.old number plain.new) }
+    ensures pins { KeepsPins PlainLive plain_map plain.old plain.new }
+    ensures runs { (first : PageMap) → LinesRun first plain.old → LinesRun first plain.new }
+{
+    if pin.size < 2 {
+        return None;
+    }
+    let byte = (pin.n % 255) as u8 + 1;
+    let Ok(prepared) = write_of(alloc, pin, plain.page_size(), byte) else {
+        return None;
+    };
+    let who = Who {
         session: 99,
         ordinal: 1,
-        snap,
-        statements: Items::new(alloc),
     };
-    let wrote = Items::from_slice(alloc, &[1, 2])?;
-    Ok(Commit {
-        entry,
-        wrote,
+    match plain.hand_in(pin, prepared, who) {
+        Ok(Receipt::At(number)) => Some(number),
+        _ => None,
+    }
+}
+
+// A transaction of this pin that wrote this byte all over page 2. The error is want of memory.
+fn write_of(
+    alloc: Global,
+    pin: &Pin,
+    page_size: usize,
+    byte: u8,
+) -> Result<Prepared<Raw>, AllocError>
+    ensures { IfOk result (λ prepared. IsWrite pin.now page_size byte prepared) }
+{
+    let changed = images_of(alloc, page_size, byte)?;
+    let mut said = Items::new(alloc);
+    said.push(text_of(alloc, 2, byte)?)?;
+    Ok(Prepared {
+        mode: Mode::Concurrent,
+        snap: pin.n,
+        base: pin.size,
+        reads: ReadSet::new(alloc),
+        changed,
+        fresh: Items::new(alloc),
+        freed: Items::new(alloc),
         tail: false,
+        wrote: true,
+        said,
+        of: PhantomData,
     })
 }
 
+// Page 2 with this byte all over it. The error is want of memory.
+fn images_of(alloc: Global, page_size: usize, byte: u8) -> Result<Items<PageImage>, AllocError>
+    ensures { IfOk result (λ images. images ≡ record { page = 2; bytes = replicate page_size byte } ∷ []) }
+{
+    let page = vec![in alloc; byte; page_size]?;
+    let bytes = Bytes::of(alloc, page.as_slice())?;
+    let mut images = Items::new(alloc);
+    images.push(PageImage { page: 2, bytes })?;
+    Ok(images)
+}
+
+// The text of a write. The error is want of memory.
+fn text_of(alloc: Global, page: u32, byte: u8) -> Result<Txt, AllocError>
+    ensures { IfOk result (λ text. text ≡ write_text page byte) }
+{
+    let text = format!(in alloc; "WRITE {page} {byte}")?;
+    Txt::of(alloc, text.as_bytes())
+}
+
 impl Engine<Raw> for Shared {
-    ghost seen = { λ shared. shared_seen shared.history.items shared.own.items };
+    ghost use Rattle.engine_tests.specs.Shared.{shared_map};
+    ghost use Rattle.engine_tests.specs.SharedLaws.{shared_run};
+    ghost use Rattle.memory_engine.specs.PlainLaws.{newest_has_sizes, pinned_has_sizes, plain_tells, plain_bounds};
 
-    ghost live = { λ shared pins. SharedLive shared.history.items pins };
+    ghost seen = { shared_seen };
 
-    ghost map_at = { λ _ _. Option.None };
+    ghost live = { SharedLive };
 
-    ghost begins = { λ shared _. SnapsBefore 0 shared.history.items };
+    ghost map_at = { shared_map };
+
+    ghost begins = { λ shared first. LinesRun first shared.plain };
 
     ghost may_begin = { λ _. Unit {0} };
 
@@ -173,43 +189,34 @@ impl Engine<Raw> for Shared {
 
     ghost loans = { λ _. [] };
 
-    ghost newest_sizes = { Prim.search rules };
+    ghost newest_sizes = { λ shared first pages runs told. newest_has_sizes shared.plain pages runs.whole told };
 
-    ghost pinned_sizes = { Prim.search rules };
+    ghost pinned_sizes = { λ shared pin pages live found. pinned_has_sizes shared.plain pin pages live found };
 
-    ghost tells = { Prim.search rules };
+    ghost tells = { λ shared pin live told. plain_tells shared.plain pin live told };
 
-    ghost bounds = { Prim.search rules };
+    ghost bounds = { λ shared pin live. plain_bounds shared.plain pin live };
 
-    ghost run = { Prim.search rules };
+    ghost run = { shared_run };
 
     ghost free_begins = { λ _ free. free };
 
     fn page_size(&self) -> usize {
-        4096
+        self.plain.page_size()
     }
 
     fn usable(&self) -> usize {
-        4096
+        self.plain.usable()
     }
 
     fn begin(&mut self) -> Pin {
         self.others_commit();
-        Pin {
-            n: self.history.len() as u64,
-            size: 16,
-            lock: Lock::Part1,
-            generation: 0,
-            mark: 0,
-        }
+        self.plain.begin()
     }
 
     fn fetch(&mut self, pin: &Pin, page: u32, buf: &mut [u8]) -> Result<(), FetchFault> {
-        let _ = pin;
-        let _ = page;
         self.others_commit();
-        buf.fill(0);
-        Ok(())
+        self.plain.fetch(pin, page, buf)
     }
 
     fn commit(
@@ -235,114 +242,79 @@ impl Engine<Raw> for Shared {
         ensures alone { ⟦<Shared as Engine<Raw>>⟧.alone self.old → ⟦<Shared as Engine<Raw>>⟧.alone self.new }
         ensures loans { ⟦<Shared as Engine<Raw>>⟧.loans self.new ≡ ⟦<Shared as Engine<Raw>>⟧.loans self.old }
     {
-        let _ = pin;
         self.others_commit();
-        if !prepared.wrote {
-            return Ok(Receipt::ReadOnly(prepared.snap));
-        }
-        match self.bar(&prepared, who) {
-            Some(fault) => Err((fault, prepared)),
-            None => self.add(prepared, who),
-        }
+        self.plain.hand_in(pin, prepared, who)
     }
 
     fn ckpt(&mut self) -> Result<Ckpt, Failed> {
         self.others_commit();
-        Ok(Ckpt::Idle)
+        self.plain.ckpt()
     }
 
     fn logs(&mut self) -> Logs {
         self.others_commit();
-        Logs {
-            current: 1,
-            frames: 0,
-            done: true,
-        }
+        self.plain.logs()
     }
 
     fn end(&mut self, pin: Pin) {
-        let _ = pin;
+        self.plain.end(pin);
     }
 }
 
-// A transaction of a snapshot that changed page 3 and read these pages.
-fn prepared_of(
-    alloc: Global,
-    pin: &Pin,
-    reads: ReadSet,
-    page_size: usize,
-    wrote: bool,
-) -> Result<Prepared<Raw>, AllocError>
-    ensures { IfOk result (λ prepared. IsPrepared pin.now reads page_size wrote prepared) }
-{
-    let bytes = Bytes::of(alloc, vec![in alloc; 7u8; page_size]?.as_slice())?;
-    let mut changed = Items::new(alloc);
-    changed.push(PageImage { page: 3, bytes })?;
-    Ok(Prepared {
-        mode: Mode::Concurrent,
-        snap: pin.n,
-        base: pin.size,
-        reads,
-        changed,
-        fresh: Items::new(alloc),
-        freed: Items::new(alloc),
-        tail: false,
-        wrote,
-        said: Items::new(alloc),
-        of: PhantomData,
-    })
-}
-
-// Begins, fetches page 2 and commits a write of page 3; answers the snapshot and what COMMIT was told.
-fn told<E: Engine<Raw>>(
-    engine: &mut E,
-    alloc: Global,
-    reads: ReadSet,
-    wrote: bool,
-) -> Result<(u64, Result<Receipt, CommitFault>), AllocError>
-    requires live { E.live engine.old [] }
-    requires may_begin { E.may_begin engine.old }
-    requires pages { 3 ≤ (E.seen engine.old).size }
-    requires maps { (e : _) (pin : Pin) → E.map_at e pin ≡ Option.None }
-{
-    let mut buf = vec![in alloc; 0u8; engine.page_size()]?;
-    let pin = engine.begin();
-    let _ = engine.fetch(&pin, 2, buf.as_mut_slice());
-    let prepared = prepared_of(alloc, &pin, reads, engine.page_size(), wrote)?;
-    let answer = match engine.commit(
-        &pin,
-        prepared,
-        Who {
-            session: 1,
-            ordinal: 1,
-        },
-    ) {
-        Ok(receipt) => Ok(receipt),
-        Err((fault, _)) => Err(fault),
-    };
-    Ok((pin.n, answer))
+#[test]
+fn a_snapshot_stays_while_others_commit(rt: HostRuntime) -> Result<(), Fail> {
+    // Others commit before BEGIN, and again to page 2 before each call of the engine that follows.
+    let mut shared = Shared::new(rt.alloc(), 9)?;
+    answered_by(
+        &rt,
+        rt.alloc(),
+        &mut shared,
+        &[
+            (begin(1), Told::Ok),
+            (read(1, 2), Told::Byte(1)),
+            (read(1, 2), Told::Byte(1)),
+            (write(1, 3, 7), Told::Ok),
+            (commit(1), busy(2, 2)),
+        ],
+    )?;
+    Ok(())
 }
 
 #[test]
-fn others_commit_between_two_calls(rt: HostRuntime) -> Result<(), Fail> {
-    let mut reads = ReadSet::new(rt.alloc());
-    reads.add(2)?;
-    let mut shared = Shared::new(rt.alloc(), 9);
-    let busy = CommitFault::BusySnapshot { page: 2, commit: 2 };
-    assert_eq!(rt; told(&mut shared, rt.alloc(), reads, true)?, (1, Err(busy)));
+fn commits_are_numbered_with_those_of_others(rt: HostRuntime) -> Result<(), Fail> {
+    // Others commit before BEGIN and before the first READ.
+    let mut shared = Shared::new(rt.alloc(), 2)?;
+    answered_by(
+        &rt,
+        rt.alloc(),
+        &mut shared,
+        &[
+            (begin(1), Told::Ok),
+            (read(1, 3), Told::Byte(0)),
+            (write(1, 3, 7), Told::Ok),
+            (commit(1), Told::Done(Receipt::At(3))),
+            (begin(1), Told::Ok),
+            (read(1, 2), Told::Byte(2)),
+            (read(1, 3), Told::Byte(7)),
+            (write(1, 2, 8), Told::Ok),
+            (commit(1), Told::Done(Receipt::At(4))),
+        ],
+    )?;
+    Ok(())
+}
 
-    let mut shared = Shared::new(rt.alloc(), 9);
-    let blind = ReadSet::new(rt.alloc());
-    assert_eq!(rt;
-        told(&mut shared, rt.alloc(), blind, true)?,
-        (1, Ok(Receipt::At(4)))
-    );
-
-    let mut shared = Shared::new(rt.alloc(), 9);
-    let blind = ReadSet::new(rt.alloc());
-    assert_eq!(rt;
-        told(&mut shared, rt.alloc(), blind, false)?,
-        (1, Ok(Receipt::ReadOnly(1)))
-    );
+#[test]
+fn who_wrote_nothing_is_told_the_snapshot(rt: HostRuntime) -> Result<(), Fail> {
+    let mut shared = Shared::new(rt.alloc(), 9)?;
+    answered_by(
+        &rt,
+        rt.alloc(),
+        &mut shared,
+        &[
+            (begin(1), Told::Ok),
+            (read(1, 2), Told::Byte(1)),
+            (commit(1), Told::Done(Receipt::ReadOnly(1))),
+        ],
+    )?;
     Ok(())
 }

@@ -6,6 +6,4 @@ mod lay;
 mod plain;
 mod shared_page;
 
-pub use conflict::find_conflict;
-pub use lay::written_pages;
 pub use plain::Plain;

@@ -1,31 +1,22 @@
-use Rattle.std.proofs.Common.{◌≡◌, ◌≤◌, length, refl, arith}
-use Rattle.run_spec.specs.declared.pins.Pin.{Pin}
-use Rattle.engine_tests.specs.Shared.{shared_seen}
-use Rattle.memory_engine.proofs.Moments.{later_same}
-use Rattle.memory_engine.proofs.PlainPins.{all_with}
-use Rattle.engine_tests.proofs.SharedMoves.{found_extended, live_extended}
+use Rattle.std.proofs.Common.{[], sym, subst}
+use Rattle.engine_tests.specs.Shared.{OthersCame}
+use Rattle.engine_tests.proofs.SharedMoves.{none_held, whole_same, begun_same, adds_after}
 use Rattle.engine_tests.proofs.shared.SharedEngineRaw.begin.Goals as goal
 
-pub returns-clause-begun : goal.returns-clause-begun
-returns-clause-begun c =
-    let mid = c.others_commit.new.self in
-    let seen = shared_seen mid.history.items mid.own.items in
-    let n : c.len.result ≡ length mid.history.items = omega (arith, c.len.ensures, mid.history.ok.0) in
-    found_extended c.args.self.now.history.items mid.history.items c.args.self.now.own.items mid.own.items _
-    c.others_commit.ensures.history c.others_commit.ensures.own (
-      seen,
-      record { n = n; size = refl; lock = refl; generation = refl; mark = refl; after_is = refl },
-      later_same ⊥ (Unit {0}) seen,
-      refl,
-    )
+pub invariant_of-self : goal.invariant_of-self
+invariant_of-self c =
+    whole_same (record { plain = c.self.inside.plain; theirs = c.self.inside.theirs.items }) c.begin.new.self c.self.invariant
+    (c.begin.ensures.pins.added [] [] (none_held c.self.inside.plain c.self.invariant.whole)).0
+    (begun_same c.self.inside.plain c.begin.new.self c.begin.result c.begin.ensures.begun)
 
 pub returns-clause-pins : goal.returns-clause-pins
 returns-clause-pins c =
-    let mid = c.others_commit.new.self in
-    let n : c.len.result ≡ length mid.history.items = omega (arith, c.len.ensures, mid.history.ok.0) in
-    record {
-      added = λ before after live.
-          all_with (λ (p : Pin). p.n ≤ length mid.history.items) before _ after (omega (arith, n))
-          (live_extended c.args.self.now.history.items mid.history.items c.others_commit.ensures.history _ live);
-      maps = λ other live. refl;
-    }
+    adds_after c.args.self.now (record { plain = c.self.inside.plain; theirs = c.self.inside.theirs.items }) c.begin.new.self c.begin.result
+    (subst (OthersCame c.args.self.now) (sym c.self.view_is) c.others_commit.ensures)
+    c.begin.ensures.pins
+
+pub returns-clause-runs : goal.returns-clause-runs
+returns-clause-runs c = λ first run.
+    let came : OthersCame c.args.self.now (record { plain = c.self.inside.plain; theirs = c.self.inside.theirs.items }) =
+    subst (OthersCame c.args.self.now) (sym c.self.view_is) c.others_commit.ensures in
+    c.begin.ensures.runs first (came.runs first run)

@@ -1,9 +1,22 @@
-use Rattle.std.proofs.Common.{◌≤◌, refl, arith}
-use Rattle.engine_tests.proofs.SharedMoves.{found_extended}
+use Rattle.std.proofs.Common.{[], sym, subst}
+use Rattle.engine_tests.specs.Shared.{OthersCame}
+use Rattle.engine_tests.proofs.SharedMoves.{none_held, whole_same, copied_same, keeps_after}
 use Rattle.engine_tests.proofs.shared.SharedEngineRaw.ckpt.Goals as goal
 
-pub returns-clause-answer : goal.returns-clause-answer
-returns-clause-answer c =
-    let mid = c.others_commit.new.self in
-    found_extended c.args.self.now.history.items mid.history.items c.args.self.now.own.items mid.own.items _
-    c.others_commit.ensures.history c.others_commit.ensures.own ((refl, refl), (let none : 0 ≤ 0 = omega arith in none), refl)
+pub invariant_of-self : goal.invariant_of-self
+invariant_of-self c =
+    whole_same (record { plain = c.self.inside.plain; theirs = c.self.inside.theirs.items }) c.ckpt.new.self c.self.invariant
+    (c.ckpt.ensures.pins.hold [] (none_held c.self.inside.plain c.self.invariant.whole)).0
+    (copied_same c.self.inside.plain c.ckpt.new.self c.ckpt.result c.ckpt.ensures.answer)
+
+pub returns-clause-pins : goal.returns-clause-pins
+returns-clause-pins c =
+    keeps_after c.args.self.now (record { plain = c.self.inside.plain; theirs = c.self.inside.theirs.items }) c.ckpt.new.self
+    (subst (OthersCame c.args.self.now) (sym c.self.view_is) c.others_commit.ensures)
+    c.ckpt.ensures.pins
+
+pub returns-clause-runs : goal.returns-clause-runs
+returns-clause-runs c = λ first run.
+    let came : OthersCame c.args.self.now (record { plain = c.self.inside.plain; theirs = c.self.inside.theirs.items }) =
+    subst (OthersCame c.args.self.now) (sym c.self.view_is) c.others_commit.ensures in
+    c.ckpt.ensures.runs first (came.runs first run)
