@@ -6,3 +6,4 @@ pub mod Standing
 pub mod Exits
 pub mod Serial
 mod WorkedRuns
+mod Counting

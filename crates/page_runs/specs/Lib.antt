@@ -1,2 +1,4 @@
 pub mod Reading
+pub mod Status
+pub mod Reply
 pub mod Outcome

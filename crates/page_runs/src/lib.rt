@@ -7,7 +7,9 @@ mod lines;
 mod output;
 mod pages;
 mod reply;
+mod status;
 
-pub use output::write_all;
+pub use output::{say_last, write_all};
 pub use pages::run_pages;
 pub use reply::told_text;
+pub use status::Status;
