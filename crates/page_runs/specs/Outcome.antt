@@ -2,10 +2,10 @@
 use Rattle.std.specs.Prelude.{◌≡◌, ℕ, ◌+◌, ◌≤◌, ◌⊎◌, Bool, true, false, if◌then◌else◌, List, [], ◌∷◌, ◌++◌, length, take, Option, Some, None, is_some, IfSome, codes, decimal}
 use Rattle.std.specs.List.{filter_map, concat}
 use Rattle.disk_face.specs.Sink.{Puts}
-use Rattle.run_spec.specs.declared.lines.Act.{Act}
-use Rattle.run_spec.specs.declared.lines.Act.TheVariants as act
-use Rattle.run_spec.specs.Reply.{reply_text, session_of}
-use Rattle.run_spec.specs.World.{World, step, start}
+use Rattle.page_lines.specs.declared.lines.Act.{Act}
+use Rattle.page_lines.specs.declared.lines.Act.TheVariants as act
+use Rattle.page_lines.specs.Reply.{reply_text, session_of}
+use Rattle.page_lines.specs.World.{World, step, start}
 use Rattle.script.specs.declared.grammar.Act2.{Act2}
 use Rattle.script.specs.declared.grammar.Act2.TheVariants as page
 use Rattle.script.specs.declared.grammar.Form.TheVariants.{Pages}

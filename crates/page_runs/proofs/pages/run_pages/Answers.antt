@@ -1,7 +1,7 @@
 use Rattle.std.proofs.Common.{refl, ◌∙◌, arith}
 use Rattle.page_runs.specs.declared.lines.Next.TheVariants as next
 use Rattle.page_runs.specs.Reading.{script_left}
-use Rattle.run_spec.specs.World.{start, after}
+use Rattle.page_lines.specs.World.{start, after}
 use Rattle.page_runs.specs.Outcome.{acts_in, Ran}
 use Rattle.page_runs.proofs.Serial.{spelled_in_range}
 use Rattle.page_runs.proofs.Exits.{status_4, status_7, status_said, status_cut, started, ended, past_limit, not_in_grammar, cut_there, front_there, goes_on, as_next, Ran_4, Ran_7}
