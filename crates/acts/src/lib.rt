@@ -13,4 +13,3 @@ pub use memory_engine::Plain;
 pub use page_lines::{Act, Raw, Told};
 pub use pagers::Pagers;
 pub use playing::play;
-
