@@ -6,17 +6,17 @@ use Rattle.std.proofs.lemmas.List.{length-take-le, get_or_push}
 use Rattle.std.proofs.lemmas.List.Elements.{All-head, All-tail}
 use Rattle.disk_face.specs.Faults.{Rose, last_count}
 use Rattle.page_spec.specs.PageMap.{PageMap, page_size_of}
-use Rattle.run_spec.specs.declared.pins.Pin.{Pin}
-use Rattle.run_spec.specs.declared.lines.Act.{Act}
-use Rattle.run_spec.specs.declared.lines.Told.{Told}
-use Rattle.run_spec.specs.PageLines.{IsPageStore}
-use Rattle.run_spec.specs.Range.{IsInRange, AreInRange}
-use Rattle.run_spec.specs.Seen.{Seen}
-use Rattle.run_spec.specs.World.{World, newest_map, step, answers_to, world_over}
-use Rattle.run_spec.specs.Alike.{AreAlike, AreAlikeSince}
-use Rattle.run_spec.proofs.Alone.{IsStore, page-long}
-use Rattle.run_spec.proofs.AlikeLaw.{since_answers, out_since}
-use Rattle.run_spec.proofs.GoingOn.{out_may}
+use Rattle.engine_spec.specs.declared.pins.Pin.{Pin}
+use Rattle.page_lines.specs.declared.lines.Act.{Act}
+use Rattle.page_lines.specs.declared.lines.Told.{Told}
+use Rattle.page_lines.specs.PageLines.{IsPageStore}
+use Rattle.page_lines.specs.Range.{IsInRange, AreInRange}
+use Rattle.engine_spec.specs.Seen.{Seen}
+use Rattle.page_lines.specs.World.{World, newest_map, step, answers_to, world_over}
+use Rattle.page_lines.specs.Alike.{AreAlike, AreAlikeSince}
+use Rattle.page_lines.proofs.Alone.{IsStore, page-long}
+use Rattle.page_lines.proofs.AlikeLaw.{since_answers, out_since}
+use Rattle.page_lines.proofs.GoingOn.{out_may}
 use Rattle.memory_engine.specs.Plain.{PlainState, newest_of, plain_seen}
 use Rattle.acts.specs.declared.seats.Seat.{Seat}
 use Rattle.acts.specs.declared.seats.State.TheVariants as seat

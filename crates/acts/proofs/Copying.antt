@@ -2,12 +2,12 @@
 use Rattle.std.proofs.Common.{◌≡◌, ℕ, ◌≤◌, List, [], Option, Some, None, subst, ap, ◌∙◌, arith}
 use Rattle.std.specs.Prelude.{IfSome}
 use Rattle.page_spec.specs.PageMap.{PageMap}
-use Rattle.run_spec.specs.declared.pins.Pin.{Pin}
-use Rattle.run_spec.specs.Seen.{Seen, Found}
-use Rattle.run_spec.specs.Seen.{Checkpoints}
-use Rattle.run_spec.specs.Logs.{LogState}
-use Rattle.run_spec.specs.declared.pins.Ckpt.{Ckpt}
-use Rattle.run_spec.specs.declared.pins.Ckpt.TheVariants.{Copied}
+use Rattle.engine_spec.specs.declared.pins.Pin.{Pin}
+use Rattle.engine_spec.specs.Seen.{Seen, Found}
+use Rattle.engine_spec.specs.Seen.{Checkpoints}
+use Rattle.engine_spec.specs.Logs.{LogState}
+use Rattle.engine_spec.specs.declared.pins.Ckpt.{Ckpt}
+use Rattle.engine_spec.specs.declared.pins.Ckpt.TheVariants.{Copied}
 use Rattle.acts.specs.Turns.{Stays}
 
 -- what was found where less stays apart, was found where more does

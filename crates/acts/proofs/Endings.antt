@@ -4,8 +4,8 @@ use Rattle.std.specs.Prelude.{Contains}
 use Rattle.std.proofs.lemmas.List.{get_or_default}
 use Rattle.std.proofs.lemmas.List.Elements.{Contains-append_left, Contains-append_right, Contains-append_cases}
 use Rattle.page_spec.specs.PageMap.{PageMap}
-use Rattle.run_spec.specs.declared.pins.Pin.{Pin}
-use Rattle.run_spec.specs.Seen.{Seen}
+use Rattle.engine_spec.specs.declared.pins.Pin.{Pin}
+use Rattle.engine_spec.specs.Seen.{Seen}
 use Rattle.acts.specs.declared.seats.Seat.{Seat}
 use Rattle.acts.specs.Pagers.{pins_in, pins_of, EndsAll}
 use Rattle.acts.specs.Turns.{AllLive, Stays}

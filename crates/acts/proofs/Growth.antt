@@ -3,25 +3,25 @@ use Rattle.std.proofs.Common.{◌≡◌, ℕ, ◌≤◌, List, [], ◌∷◌, �
 use Rattle.std.specs.Option.{option_map}
 use Rattle.std.proofs.lemmas.List.{append-nil}
 use Rattle.page_spec.specs.PageMap.{PageMap}
-use Rattle.run_spec.specs.declared.pins.Pin.{Pin}
-use Rattle.run_spec.specs.declared.pins.Ckpt.{Ckpt}
-use Rattle.run_spec.specs.declared.pins.Ckpt.TheVariants.{Idle}
-use Rattle.run_spec.specs.declared.lines.Act.{Act}
-use Rattle.run_spec.specs.declared.lines.Act.TheVariants as act
-use Rattle.run_spec.specs.declared.lines.Told.{Told}
-use Rattle.run_spec.specs.declared.lines.Told.TheVariants as reply
-use Rattle.run_spec.specs.declared.commits.Receipt.{Receipt}
-use Rattle.run_spec.specs.declared.commits.Receipt.TheVariants.{At, ReadOnly}
-use Rattle.run_spec.specs.declared.commits.Commit.{Commit}
-use Rattle.run_spec.specs.declared.commits.CommitFault.TheVariants as fault
-use Rattle.run_spec.specs.Logs.{LogState, before_frames, with_frames}
-use Rattle.run_spec.specs.Seen.{Seen, Stop, Found, Later, Begins, Ends, Fails, OnlyFaults, Submitted, Accepts, Refuses, Checkpoints, commit_of, with_reader, without_reader, written}
+use Rattle.engine_spec.specs.declared.pins.Pin.{Pin}
+use Rattle.engine_spec.specs.declared.pins.Ckpt.{Ckpt}
+use Rattle.engine_spec.specs.declared.pins.Ckpt.TheVariants.{Idle}
+use Rattle.page_lines.specs.declared.lines.Act.{Act}
+use Rattle.page_lines.specs.declared.lines.Act.TheVariants as act
+use Rattle.page_lines.specs.declared.lines.Told.{Told}
+use Rattle.page_lines.specs.declared.lines.Told.TheVariants as reply
+use Rattle.engine_spec.specs.declared.commits.Receipt.{Receipt}
+use Rattle.engine_spec.specs.declared.commits.Receipt.TheVariants.{At, ReadOnly}
+use Rattle.engine_spec.specs.declared.commits.Commit.{Commit}
+use Rattle.engine_spec.specs.declared.commits.CommitFault.TheVariants as fault
+use Rattle.engine_spec.specs.Logs.{LogState, before_frames, with_frames}
+use Rattle.engine_spec.specs.Seen.{Seen, Stop, Found, Later, Begins, Ends, Fails, OnlyFaults, Submitted, Accepts, Refuses, Checkpoints, commit_of, with_reader, without_reader, written}
 use Rattle.acts.specs.declared.seats.Seat.{Seat}
 use Rattle.acts.specs.declared.seats.State.{State}
 use Rattle.acts.specs.declared.seats.State.TheVariants.{Out, Open, Refused}
 use Rattle.acts.specs.declared.seats.Transaction.{Transaction}
 use Rattle.acts.specs.Pagers.{Between, Acts, BeginActs, ReadActs, ReadOpen, WriteActs, CommitActs, CommitOpen, RollbackActs, StepActs, Copies, Grew, EndsAll, Plays, pins_of, state_of, submitted_of}
-use Rattle.run_spec.specs.PageLines.{image_of}
+use Rattle.engine_spec.specs.Change.{image_of}
 
 -- Later under weaker premises
 later_under : (alone free alone_then free_then : Type 0) (old new : Seen) → (alone → alone_then) → (free → free_then)

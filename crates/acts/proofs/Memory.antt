@@ -2,12 +2,12 @@
 use Rattle.std.proofs.Common.{◌≡◌, ◌∙◌, ℕ, ◌≤◌, List, [], ◌∷◌, ◌++◌, length, refl, sym, ap, subst, inl, arith, append-nil}
 use Rattle.std.specs.Prelude.{Some, Contains, slice_get}
 use Rattle.page_spec.specs.PageMap.{PageMap, page_size_of}
-use Rattle.run_spec.specs.declared.pins.Pin.{Pin}
-use Rattle.run_spec.specs.declared.lines.Act.{Act}
-use Rattle.run_spec.specs.declared.lines.Told.{Told}
-use Rattle.run_spec.specs.Seen.{Found, OnlyFaults}
-use Rattle.run_spec.specs.World.{World, step, world_over}
-use Rattle.run_spec.proofs.Alone.{IsStore}
+use Rattle.engine_spec.specs.declared.pins.Pin.{Pin}
+use Rattle.page_lines.specs.declared.lines.Act.{Act}
+use Rattle.page_lines.specs.declared.lines.Told.{Told}
+use Rattle.engine_spec.specs.Seen.{Found, OnlyFaults}
+use Rattle.page_lines.specs.World.{World, step, world_over}
+use Rattle.page_lines.proofs.Alone.{IsStore}
 use Rattle.acts.specs.declared.seats.Seat.{Seat}
 use Rattle.acts.specs.Pagers.{Between, Acts, AreSound, pins_of}
 use Rattle.memory_engine.specs.Plain.{PlainState, IsPlain, PlainLive, newest_of, plain_seen}

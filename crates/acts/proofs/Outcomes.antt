@@ -4,21 +4,22 @@ use Rattle.std.specs.Prelude.{IfSome, IfOk, OnOk, OnErr, false}
 use Rattle.std.specs.declared.alloc.AllocError.{AllocError}
 use Rattle.std.proofs.lemmas.List.{length-replicate}
 use Rattle.page_spec.specs.PageMap.{PageMap, page_size_of}
-use Rattle.run_spec.specs.declared.pins.Pin.{Pin}
-use Rattle.run_spec.specs.declared.lines.Told.{Told}
-use Rattle.run_spec.specs.declared.lines.Act.TheVariants as act
-use Rattle.run_spec.specs.declared.commits.PageImage.{PageImage}
-use Rattle.run_spec.specs.declared.commits.Mode.TheVariants.{Concurrent}
-use Rattle.run_spec.specs.declared.commits.CommitFault.{CommitFault}
-use Rattle.run_spec.specs.declared.commits.CommitFault.TheVariants.{Stopped, BusySnapshot, SizeLimit, Memory, Disk, Corrupt}
-use Rattle.run_spec.specs.declared.commits.Receipt.{Receipt}
-use Rattle.run_spec.specs.declared.commits.Receipt.TheVariants.{At, ReadOnly}
-use Rattle.run_spec.specs.PageLines.{ReadPage, WritePage, read_text, write_text, image_of, Fills, AreImages, IsPageStore, PageLinesLead}
-use Rattle.run_spec.specs.Good.{Good, HasSizes}
-use Rattle.run_spec.specs.Seen.{Seen, Found, Accepts, Refuses, Ends, Submitted}
-use Rattle.run_spec.proofs.Laying.{page_at-length}
-use Rattle.run_spec.proofs.GoodLines.{good_lines}
-use Rattle.run_spec.proofs.Transactions.{with_image-are, fills_read, fills_write, texts-push}
+use Rattle.engine_spec.specs.declared.pins.Pin.{Pin}
+use Rattle.page_lines.specs.declared.lines.Told.{Told}
+use Rattle.page_lines.specs.declared.lines.Act.TheVariants as act
+use Rattle.engine_spec.specs.declared.commits.PageImage.{PageImage}
+use Rattle.engine_spec.specs.declared.commits.Mode.TheVariants.{Concurrent}
+use Rattle.engine_spec.specs.declared.commits.CommitFault.{CommitFault}
+use Rattle.engine_spec.specs.declared.commits.CommitFault.TheVariants.{Stopped, BusySnapshot, SizeLimit, Memory, Disk, Corrupt}
+use Rattle.engine_spec.specs.declared.commits.Receipt.{Receipt}
+use Rattle.engine_spec.specs.declared.commits.Receipt.TheVariants.{At, ReadOnly}
+use Rattle.page_lines.specs.PageLines.{ReadPage, WritePage, read_text, write_text, Fills, AreImages, IsPageStore, PageLinesLead}
+use Rattle.engine_spec.specs.Change.{image_of}
+use Rattle.engine_spec.specs.Good.{Good, HasSizes}
+use Rattle.engine_spec.specs.Seen.{Seen, Found, Accepts, Refuses, Ends, Submitted}
+use Rattle.engine_spec.proofs.Laying.{page_at-length}
+use Rattle.page_lines.proofs.GoodLines.{good_lines}
+use Rattle.page_lines.proofs.Transactions.{with_image-are, fills_read, fills_write, texts-push}
 use Rattle.page_face.specs.Pins.{KeepsPins, TakesPin}
 use Rattle.acts.specs.declared.seats.Seat.{Seat}
 use Rattle.acts.specs.declared.seats.State.{State}

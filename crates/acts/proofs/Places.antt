@@ -2,8 +2,8 @@
 use Rattle.std.proofs.Common.{◌≡◌, ℕ, ◌+◌, ◌<◌, ◌≤◌, Bool, true, false, cond, eqb, ltb, not, List, [], ◌∷◌, ◌++◌, length, set, get_or, Some, None, suc, refl, sym, ap, subst, arith}
 use Rattle.std.specs.List.{position, position_or_len}
 use borrow.Author.Tests.{ltb-true, ltb-false, eqb-true}
-use Rattle.run_spec.specs.declared.commits.PageImage.{PageImage}
-use Rattle.run_spec.specs.PageLines.{with_image}
+use Rattle.engine_spec.specs.declared.commits.PageImage.{PageImage}
+use Rattle.page_lines.specs.PageLines.{with_image}
 use Rattle.acts.specs.declared.seats.Seat.{Seat}
 use Rattle.acts.specs.declared.seats.State.TheVariants.{Out}
 use Rattle.acts.specs.Pagers.{state_of, begun_of, with_seat}

@@ -3,7 +3,7 @@ use Rattle.std.proofs.Common.{◌≡◌, ◌∙◌, ℕ, Bool, true, false, cond
 use Rattle.std.specs.Prelude.{Contains}
 use Rattle.std.proofs.lemmas.Bool.{cases_eq, ne_eqb}
 use Rattle.std.proofs.lemmas.List.Elements.{All-head, All-tail, Contains-append_left, Contains-append_right}
-use Rattle.run_spec.specs.declared.pins.Pin.{Pin}
+use Rattle.engine_spec.specs.declared.pins.Pin.{Pin}
 use Rattle.acts.specs.declared.seats.Seat.{Seat}
 use Rattle.acts.specs.declared.seats.State.{State}
 use Rattle.acts.specs.Pagers.{state_of, begun_of, with_seat, pins_in, pins_of, IsSoundState, AreSound}

@@ -8,11 +8,11 @@ use Rattle.std.proofs.Math.Seq.{get_or-append_seam}
 use Rattle.std.proofs.lemmas.List.Concat.{flat_map-append}
 use Rattle.std.proofs.lemmas.List.Elements.{Contains-append_left, Contains-append_right}
 use Rattle.page_spec.specs.PageMap.{PageMap}
-use Rattle.run_spec.specs.declared.pins.Pin.{Pin}
-use Rattle.run_spec.specs.declared.lines.Told.{Told}
-use Rattle.run_spec.specs.declared.lines.Told.TheVariants as reply
-use Rattle.run_spec.specs.Logs.{one_more}
-use Rattle.run_spec.specs.Seen.{Seen}
+use Rattle.engine_spec.specs.declared.pins.Pin.{Pin}
+use Rattle.page_lines.specs.declared.lines.Told.{Told}
+use Rattle.page_lines.specs.declared.lines.Told.TheVariants as reply
+use Rattle.engine_spec.specs.Logs.{one_more}
+use Rattle.engine_spec.specs.Seen.{Seen}
 use Rattle.acts.specs.declared.seats.Seat.{Seat}
 use Rattle.acts.specs.declared.seats.State.{State}
 use Rattle.acts.specs.declared.seats.State.TheVariants.{Out, Open, Refused}

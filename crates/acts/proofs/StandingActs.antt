@@ -2,17 +2,17 @@
 use Rattle.std.proofs.Common.{◌≡◌, ◌∙◌, List, [], ◌∷◌, refl, ap, subst, inl, inr}
 use Rattle.std.specs.Prelude.{Option, None}
 use Rattle.page_spec.specs.PageMap.{PageMap}
-use Rattle.run_spec.specs.declared.pins.Ckpt.{Ckpt}
-use Rattle.run_spec.specs.declared.pins.Ckpt.TheVariants as checkpoint
-use Rattle.run_spec.specs.declared.commits.Commit.{Commit}
-use Rattle.run_spec.specs.declared.lines.Act.{Act}
-use Rattle.run_spec.specs.declared.lines.Act.TheVariants as act
-use Rattle.run_spec.specs.declared.lines.Told.{Told}
-use Rattle.run_spec.specs.declared.lines.Told.TheVariants as reply
-use Rattle.run_spec.specs.Logs.{LogState, told_logs}
-use Rattle.run_spec.specs.Seen.{Seen, Checkpoints}
-use Rattle.run_spec.specs.World.{World, SessionState, Outcome, changed_at, map_number, newest_map, step, begin_step, read_step, write_step, commit_step, rollback_step, commit, committed, moved, decided, change_of, submitted}
-use Rattle.run_spec.specs.World as run
+use Rattle.engine_spec.specs.declared.pins.Ckpt.{Ckpt}
+use Rattle.engine_spec.specs.declared.pins.Ckpt.TheVariants as checkpoint
+use Rattle.engine_spec.specs.declared.commits.Commit.{Commit}
+use Rattle.page_lines.specs.declared.lines.Act.{Act}
+use Rattle.page_lines.specs.declared.lines.Act.TheVariants as act
+use Rattle.page_lines.specs.declared.lines.Told.{Told}
+use Rattle.page_lines.specs.declared.lines.Told.TheVariants as reply
+use Rattle.engine_spec.specs.Logs.{LogState, told_logs}
+use Rattle.engine_spec.specs.Seen.{Seen, Checkpoints}
+use Rattle.page_lines.specs.World.{World, SessionState, Outcome, changed_at, map_number, newest_map, step, begin_step, read_step, write_step, commit_step, rollback_step, commit, committed, moved, decided, change_of, submitted}
+use Rattle.page_lines.specs.World as run
 use Rattle.acts.specs.declared.seats.Seat.{Seat}
 use Rattle.acts.specs.Pagers.{Between, Acts, StepActs, Copies, state_of}
 use Rattle.acts.specs.Playing.{IsOfSession}

@@ -3,21 +3,21 @@ use Rattle.std.proofs.Common.{◌≡◌, ◌∙◌, ℕ, ◌+◌, Bool, true, fa
 use Rattle.std.specs.Prelude.{Option, Some, None}
 use Rattle.disk_face.specs.Faults.{Rose}
 use Rattle.page_spec.specs.PageMap.{PageMap}
-use Rattle.run_spec.specs.declared.pins.Pin.{Pin}
-use Rattle.run_spec.specs.declared.commits.Commit.{Commit}
-use Rattle.run_spec.specs.declared.commits.Mode.TheVariants.{Concurrent}
-use Rattle.run_spec.specs.declared.commits.Receipt.{Receipt}
-use Rattle.run_spec.specs.declared.commits.Receipt.TheVariants.{At, ReadOnly}
-use Rattle.run_spec.specs.declared.commits.CommitFault.TheVariants as fault
-use Rattle.run_spec.specs.declared.lines.Act.TheVariants as act
-use Rattle.run_spec.specs.declared.lines.Told.{Told}
-use Rattle.run_spec.specs.declared.lines.Told.TheVariants as reply
-use Rattle.run_spec.specs.Change.{laid}
-use Rattle.run_spec.specs.History.{conflict}
-use Rattle.run_spec.specs.Seen.{Seen, Submitted, Ends, Accepts, Refuses, commit_of}
-use Rattle.run_spec.specs.World.{World, SessionState, Outcome, changed_at, map_number, newest_map, step, begin_step, read_step, write_step, commit_step, rollback_step, commit, committed, moved, decided, change_of, submitted}
-use Rattle.run_spec.specs.World as run
-use Rattle.run_spec.proofs.Conflicts.{conflict_none, conflict_is}
+use Rattle.engine_spec.specs.declared.pins.Pin.{Pin}
+use Rattle.engine_spec.specs.declared.commits.Commit.{Commit}
+use Rattle.engine_spec.specs.declared.commits.Mode.TheVariants.{Concurrent}
+use Rattle.engine_spec.specs.declared.commits.Receipt.{Receipt}
+use Rattle.engine_spec.specs.declared.commits.Receipt.TheVariants.{At, ReadOnly}
+use Rattle.engine_spec.specs.declared.commits.CommitFault.TheVariants as fault
+use Rattle.page_lines.specs.declared.lines.Act.TheVariants as act
+use Rattle.page_lines.specs.declared.lines.Told.{Told}
+use Rattle.page_lines.specs.declared.lines.Told.TheVariants as reply
+use Rattle.engine_spec.specs.Change.{laid}
+use Rattle.engine_spec.specs.History.{conflict}
+use Rattle.engine_spec.specs.Seen.{Seen, Submitted, Ends, Accepts, Refuses, commit_of}
+use Rattle.page_lines.specs.World.{World, SessionState, Outcome, changed_at, map_number, newest_map, step, begin_step, read_step, write_step, commit_step, rollback_step, commit, committed, moved, decided, change_of, submitted}
+use Rattle.page_lines.specs.World as run
+use Rattle.engine_spec.proofs.Conflicts.{conflict_none, conflict_is}
 use Rattle.acts.specs.declared.seats.Seat.{Seat}
 use Rattle.acts.specs.declared.seats.State.{State}
 use Rattle.acts.specs.declared.seats.State.TheVariants as seat

@@ -3,15 +3,16 @@ use Rattle.std.proofs.Common.{◌≡◌, ◌∙◌, ℕ, Bool, cond, List, [], �
 use Rattle.std.specs.Prelude.{Option, Some, None, slice_index, unwrap_or, IfSome}
 use Rattle.std.proofs.lemmas.Bool.{ne_eqb}
 use Rattle.page_spec.specs.PageMap.{PageMap, page_at, page_size_of}
-use Rattle.run_spec.specs.declared.commits.PageImage.{PageImage}
-use Rattle.run_spec.specs.declared.lines.Told.{Told}
-use Rattle.run_spec.specs.declared.lines.Told.TheVariants as reply
-use Rattle.run_spec.specs.PageSet.{with_page}
-use Rattle.run_spec.specs.PageLines.{image_of, with_image, read_text, write_text}
-use Rattle.run_spec.specs.Logs.{one_more}
-use Rattle.run_spec.specs.Seen.{Seen, with_reader}
-use Rattle.run_spec.specs.World.{World, SessionState, Outcome, changed_at, map_number, newest_map, step, begin_step, read_step, write_step, commit_step, rollback_step, commit, committed, moved, decided, change_of, submitted}
-use Rattle.run_spec.specs.World as run
+use Rattle.engine_spec.specs.declared.commits.PageImage.{PageImage}
+use Rattle.page_lines.specs.declared.lines.Told.{Told}
+use Rattle.page_lines.specs.declared.lines.Told.TheVariants as reply
+use Rattle.engine_spec.specs.PageSet.{with_page}
+use Rattle.page_lines.specs.PageLines.{with_image, read_text, write_text}
+use Rattle.engine_spec.specs.Change.{image_of}
+use Rattle.engine_spec.specs.Logs.{one_more}
+use Rattle.engine_spec.specs.Seen.{Seen, with_reader}
+use Rattle.page_lines.specs.World.{World, SessionState, Outcome, changed_at, map_number, newest_map, step, begin_step, read_step, write_step, commit_step, rollback_step, commit, committed, moved, decided, change_of, submitted}
+use Rattle.page_lines.specs.World as run
 use Rattle.acts.specs.declared.seats.Seat.{Seat}
 use Rattle.acts.specs.declared.seats.State.{State}
 use Rattle.acts.specs.declared.seats.State.TheVariants as seat

@@ -13,15 +13,16 @@ use Rattle.std.proofs.lemmas.List.Elements.{All-contains, All-from_recursion}
 use Rattle.std.proofs.Math.Seq.{get_or-append_seam}
 use Rattle.disk_face.specs.Faults.{Rose}
 use Rattle.page_spec.specs.PageMap.{PageMap, page_size_of, page_sizes}
-use Rattle.run_spec.specs.declared.pins.Pin.{Pin}
-use Rattle.run_spec.specs.declared.commits.PageImage.{PageImage}
-use Rattle.run_spec.specs.Change.{Change, laid}
-use Rattle.run_spec.specs.declared.commits.Commit.{Commit}
-use Rattle.run_spec.specs.Logs.{LogState}
-use Rattle.run_spec.specs.PageLines.{AreImages, IsPageStore}
-use Rattle.run_spec.specs.Seen.{Seen, IsOver, pages_after, frames_after}
-use Rattle.run_spec.proofs.Laying.{laid-page_size}
-use Rattle.run_spec.proofs.GoodLines.{legal_size, lines_whole, laid-store}
+use Rattle.engine_spec.specs.declared.pins.Pin.{Pin}
+use Rattle.engine_spec.specs.declared.commits.PageImage.{PageImage}
+use Rattle.engine_spec.specs.Change.{Change, laid}
+use Rattle.engine_spec.specs.declared.commits.Commit.{Commit}
+use Rattle.engine_spec.specs.Logs.{LogState}
+use Rattle.page_lines.specs.PageLines.{AreImages, IsPageStore}
+use Rattle.engine_spec.specs.Seen.{Seen, IsOver, pages_after, frames_after}
+use Rattle.engine_spec.proofs.Laying.{laid-page_size}
+use Rattle.page_lines.proofs.GoodLines.{lines_whole, laid-store}
+use Rattle.engine_spec.proofs.Laying.{legal_size}
 use Rattle.acts.specs.InMemory.{TellsOf, PinStands}
 
 -- where nothing but the logs and the faults changed, all stays

@@ -2,12 +2,12 @@
 use Rattle.std.specs.Prelude.{◌≡◌, ℕ, ◌+◌, ◌<◌, List, [], length, slice_get, Option, Some, None}
 use Rattle.std.specs.List.{slice_index_or}
 use Rattle.page_spec.specs.PageMap.{PageMap, page_size_of}
-use Rattle.run_spec.specs.declared.pins.Pin.{Pin}
-use Rattle.run_spec.specs.declared.commits.Commit.{Commit}
-use Rattle.run_spec.specs.PageLines.{IsPageStore}
-use Rattle.run_spec.specs.Seen.{Seen}
-use Rattle.run_spec.specs.World.{World, SessionState}
-use Rattle.run_spec.specs.World as run
+use Rattle.engine_spec.specs.declared.pins.Pin.{Pin}
+use Rattle.engine_spec.specs.declared.commits.Commit.{Commit}
+use Rattle.page_lines.specs.PageLines.{IsPageStore}
+use Rattle.engine_spec.specs.Seen.{Seen}
+use Rattle.page_lines.specs.World.{World, SessionState}
+use Rattle.page_lines.specs.World as run
 use Rattle.acts.specs.declared.seats.Seat.{Seat}
 use Rattle.acts.specs.declared.seats.State.{State}
 use Rattle.acts.specs.declared.seats.State.TheVariants as seat

@@ -2,20 +2,21 @@
 use Rattle.std.specs.Prelude.{◌≡◌, ℕ, ◌≤◌, ◌==◌, ◌⊎◌, if◌then◌else◌, true, false, List, [], ◌∷◌, ◌++◌, map, replicate, slice_index, Option, Some, None, IfSome, All, Contains}
 use Rattle.std.specs.List.{flat_map}
 use Rattle.page_spec.specs.PageMap.{PageMap, page_at}
-use Rattle.run_spec.specs.declared.pins.Pin.{Pin}
-use Rattle.run_spec.specs.declared.pins.Ckpt.{Ckpt}
-use Rattle.run_spec.specs.declared.pins.Ckpt.TheVariants as checkpoint
-use Rattle.run_spec.specs.declared.commits.Mode.TheVariants.{Concurrent}
-use Rattle.run_spec.specs.declared.commits.CommitFault.TheVariants as fault
-use Rattle.run_spec.specs.declared.lines.Act.{Act}
-use Rattle.run_spec.specs.declared.lines.Act.TheVariants as act
-use Rattle.run_spec.specs.declared.lines.Told.{Told}
-use Rattle.run_spec.specs.declared.lines.Told.TheVariants as reply
-use Rattle.run_spec.specs.declared.commits.Commit.{Commit}
-use Rattle.run_spec.specs.PageSet.{with_page}
-use Rattle.run_spec.specs.PageLines.{Statement, statement_text, read_text, write_text, image_of, with_image, Fills, AreImages}
-use Rattle.run_spec.specs.Logs.{one_more, told_logs}
-use Rattle.run_spec.specs.Seen.{Seen, Found, Later, Begins, Ends, Fails, OnlyFaults, Submitted, Accepts, Refuses, Checkpoints}
+use Rattle.engine_spec.specs.declared.pins.Pin.{Pin}
+use Rattle.engine_spec.specs.declared.pins.Ckpt.{Ckpt}
+use Rattle.engine_spec.specs.declared.pins.Ckpt.TheVariants as checkpoint
+use Rattle.engine_spec.specs.declared.commits.Mode.TheVariants.{Concurrent}
+use Rattle.engine_spec.specs.declared.commits.CommitFault.TheVariants as fault
+use Rattle.page_lines.specs.declared.lines.Act.{Act}
+use Rattle.page_lines.specs.declared.lines.Act.TheVariants as act
+use Rattle.page_lines.specs.declared.lines.Told.{Told}
+use Rattle.page_lines.specs.declared.lines.Told.TheVariants as reply
+use Rattle.engine_spec.specs.declared.commits.Commit.{Commit}
+use Rattle.engine_spec.specs.PageSet.{with_page}
+use Rattle.page_lines.specs.PageLines.{Statement, statement_text, read_text, write_text, with_image, Fills, AreImages}
+use Rattle.engine_spec.specs.Change.{image_of}
+use Rattle.engine_spec.specs.Logs.{one_more, told_logs}
+use Rattle.engine_spec.specs.Seen.{Seen, Found, Later, Begins, Ends, Fails, OnlyFaults, Submitted, Accepts, Refuses, Checkpoints}
 use Rattle.acts.specs.declared.seats.Seat.{Seat}
 use Rattle.acts.specs.declared.seats.State.{State}
 use Rattle.acts.specs.declared.seats.State.TheVariants.{Out, Open, Refused}

@@ -1,14 +1,14 @@
 -- What a run of page lines is answered over any engine that nobody else commits to: what the run over whole page maps is answered.
 use Rattle.std.specs.Prelude.{◌≡◌, ℕ, ◌+◌, List, length, Some, None, All}
 use Rattle.page_spec.specs.PageMap.{PageMap, page_size_of}
-use Rattle.run_spec.specs.declared.lines.Act.{Act}
-use Rattle.run_spec.specs.declared.lines.Act.TheVariants as act
-use Rattle.run_spec.specs.declared.lines.Told.{Told}
-use Rattle.run_spec.specs.declared.lines.Told.TheVariants as reply
-use Rattle.run_spec.specs.PageLines.{IsPageStore}
-use Rattle.run_spec.specs.Seen.{Seen}
-use Rattle.run_spec.specs.World.{World, Out, newest_map}
-use Rattle.run_spec.specs.Alike.{AreAlike}
+use Rattle.page_lines.specs.declared.lines.Act.{Act}
+use Rattle.page_lines.specs.declared.lines.Act.TheVariants as act
+use Rattle.page_lines.specs.declared.lines.Told.{Told}
+use Rattle.page_lines.specs.declared.lines.Told.TheVariants as reply
+use Rattle.page_lines.specs.PageLines.{IsPageStore}
+use Rattle.engine_spec.specs.Seen.{Seen}
+use Rattle.page_lines.specs.World.{World, Out, newest_map}
+use Rattle.page_lines.specs.Alike.{AreAlike}
 
 -- An engine rests at a world: it has as many commits, its newest map and the world's are page stores with the same pages 2 to 16, no
 -- write of a log failed, and no session has begun a transaction. What the earlier commits and maps were doesn't matter.

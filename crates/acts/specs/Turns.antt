@@ -1,16 +1,16 @@
 -- What an act on one seat asks, how it bears on the list of seats, and what it leaves of an engine.
 use Rattle.std.specs.Prelude.{◌≡◌, ℕ, ◌≤◌, List, ◌++◌, Contains, Option, All, Result, Ok, Err, alloc_error}
 use Rattle.std.specs.declared.alloc.AllocError.{AllocError}
-use Rattle.run_spec.specs.declared.commits.CommitFault.{CommitFault}
-use Rattle.run_spec.specs.declared.commits.CommitFault.TheVariants as fault
-use Rattle.run_spec.specs.declared.lines.Told.{Told}
-use Rattle.run_spec.specs.declared.lines.Told.TheVariants as reply
+use Rattle.engine_spec.specs.declared.commits.CommitFault.{CommitFault}
+use Rattle.engine_spec.specs.declared.commits.CommitFault.TheVariants as fault
+use Rattle.page_lines.specs.declared.lines.Told.{Told}
+use Rattle.page_lines.specs.declared.lines.Told.TheVariants as reply
 use Rattle.page_spec.specs.PageMap.{PageMap}
-use Rattle.run_spec.specs.declared.pins.Pin.{Pin}
-use Rattle.run_spec.specs.declared.lines.Act.{Act}
-use Rattle.run_spec.specs.declared.lines.Act.TheVariants as act
-use Rattle.run_spec.specs.Logs.{one_more}
-use Rattle.run_spec.specs.Seen.{Seen, Found, Later, Begins}
+use Rattle.engine_spec.specs.declared.pins.Pin.{Pin}
+use Rattle.page_lines.specs.declared.lines.Act.{Act}
+use Rattle.page_lines.specs.declared.lines.Act.TheVariants as act
+use Rattle.engine_spec.specs.Logs.{one_more}
+use Rattle.engine_spec.specs.Seen.{Seen, Found, Later, Begins}
 use Rattle.page_face.specs.Pins.{IsLive}
 use Rattle.acts.specs.declared.seats.Seat.{Seat}
 use Rattle.acts.specs.declared.seats.State.{State}

@@ -2,13 +2,13 @@
 ghost use Rattle.std.specs.Prelude.{◌≡◌, ◌≤◌, [], ◌∷◌, length, IfOk, OnErr};
 ghost use Rattle.page_spec.specs.PageMap.{page_size_of};
 ghost use Rattle.memory_engine.specs.Plain.{PlainLive, newest_of};
-ghost use Rattle.run_spec.specs.World.{World, zeros, start, step};
-ghost use Rattle.run_spec.specs.Range.{IsInRange};
+ghost use Rattle.page_lines.specs.World.{World, zeros, start, step};
+ghost use Rattle.page_lines.specs.Range.{IsInRange};
 ghost use Rattle.acts.specs.InMemory.{Memory, IsAt};
 
 use crate::{Pagers, Plain, Raw};
 use disk_face::Bytes;
-use run_spec::{Act, Told};
+use page_lines::{Act, Told};
 use std::alloc::{AllocError, Global};
 use std::marker::Model;
 

@@ -10,7 +10,6 @@ mod turns;
 
 pub use in_memory::{InMemory, engine_of_zeros};
 pub use memory_engine::Plain;
-pub use page_face::Raw;
+pub use page_lines::{Act, Raw, Told};
 pub use pagers::Pagers;
 pub use playing::play;
-pub use run_spec::{Act, Told};

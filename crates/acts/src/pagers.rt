@@ -1,17 +1,17 @@
 // The sessions of page lines.
 ghost use Rattle.std.specs.Prelude.{◌≡◌, ◌≤◌, ◌<◌, ◌==◌, position, List, [], ◌++◌, Contains, IfOk, OnErr, Option};
 ghost use Rattle.page_spec.specs.PageMap.{PageMap};
-ghost use Rattle.run_spec.specs.declared.lines.Act.TheVariants as act;
-ghost use Rattle.run_spec.specs.declared.pins.Pin.{Pin};
-ghost use Rattle.run_spec.specs.Seen.{Found, OnlyFaults};
-ghost use Rattle.run_spec.specs.Range.{IsInRange};
+ghost use Rattle.page_lines.specs.declared.lines.Act.TheVariants as act;
+ghost use Rattle.engine_spec.specs.declared.pins.Pin.{Pin};
+ghost use Rattle.engine_spec.specs.Seen.{Found, OnlyFaults};
+ghost use Rattle.page_lines.specs.Range.{IsInRange};
 ghost use Rattle.acts.specs.Pagers.{Acts, AreSound, EndsAll, pins_of};
 ghost use Rattle.acts.specs.Turns.{act_of, Stays};
 
 use crate::seats::{Seat, State};
 use crate::turns::{Deed, begin_again, begin_out, copy, end_one, logs, step, turn};
-use page_face::{Engine, Raw};
-use run_spec::{Act, Told};
+use page_face::Engine;
+use page_lines::{Act, Raw, Told};
 use std::alloc::{AllocError, Global};
 use std::marker::Model;
 

@@ -2,16 +2,16 @@
 ghost use Rattle.std.specs.Prelude.{◌≡◌, ◌≤◌, ◌⊎◌, List, [], ◌++◌, Contains, IfOk};
 ghost use Rattle.disk_face.specs.Faults.{Rose};
 ghost use Rattle.page_spec.specs.PageMap.{PageMap};
-ghost use Rattle.run_spec.specs.declared.pins.Pin.{Pin};
-ghost use Rattle.run_spec.specs.Seen.{Seen};
-ghost use Rattle.run_spec.specs.Range.{AreInRange};
-ghost use Rattle.run_spec.specs.World.{World, answers_to};
+ghost use Rattle.engine_spec.specs.declared.pins.Pin.{Pin};
+ghost use Rattle.engine_spec.specs.Seen.{Seen};
+ghost use Rattle.page_lines.specs.Range.{AreInRange};
+ghost use Rattle.page_lines.specs.World.{World, answers_to};
 ghost use Rattle.acts.specs.Pagers.{pins_of, Plays, EndsAll, Grew};
 ghost use Rattle.acts.specs.Playing.{RestsAt, IsWithoutLogs, AreSessions, HaveNoLimit};
 
 use crate::pagers::Pagers;
-use page_face::{Engine, Raw};
-use run_spec::{Act, Told};
+use page_face::Engine;
+use page_lines::{Act, Raw, Told};
 use std::alloc::{AllocError, Global};
 
 /// Plays acts one after another, by sessions that haven't acted yet, and then rolls back what is still open. It needs an engine on

@@ -1,7 +1,7 @@
 // What each session holds.
 use disk_face::Txt;
+use engine_spec::PageImage;
 use page_face::{Pin, ReadSet};
-use run_spec::PageImage;
 use sqlite_items::Items;
 
 /// A session of page lines.

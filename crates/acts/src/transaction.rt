@@ -1,11 +1,12 @@
 // What a transaction of page lines keeps of its reads and writes.
 ghost use Rattle.std.specs.Prelude.{◌≡◌, ◌<◌, ◌==◌, position, length, replicate, slice_index, IfOk, OnOk, OnErr, MatchOption, All, Option};
-ghost use Rattle.run_spec.specs.PageLines.{read_text, write_text, image_of, with_image};
+ghost use Rattle.page_lines.specs.PageLines.{read_text, write_text, with_image};
+ghost use Rattle.engine_spec.specs.Change.{image_of};
 ghost use Rattle.acts.specs.Pagers.{after_fetch, after_own, after_write};
 
 use crate::seats::Transaction;
 use disk_face::{Bytes, Txt};
-use run_spec::PageImage;
+use engine_spec::PageImage;
 use sqlite_items::Items;
 use std::alloc::{AllocError, Global};
 

@@ -1,24 +1,24 @@
 // What an act does to one session's transaction, and to the engine.
 ghost use Rattle.std.specs.Prelude.{◌≡◌, ◌≢◌, ℕ, ◌≤◌, ◌<◌, List, [], ◌∷◌, length, slice_index, IfOk, OnOk, OnErr, IfSome, MatchOption, MatchResult};
 ghost use Rattle.page_spec.specs.PageMap.{page_at};
-ghost use Rattle.run_spec.specs.declared.commits.CommitFault.TheVariants as fault;
-ghost use Rattle.run_spec.specs.PageLines.{image_of};
-ghost use Rattle.run_spec.specs.Logs.{told_logs};
-ghost use Rattle.run_spec.specs.Seen.{Found, Fails, OnlyFaults, Checkpoints};
+ghost use Rattle.engine_spec.specs.declared.commits.CommitFault.TheVariants as fault;
+ghost use Rattle.engine_spec.specs.Change.{image_of};
+ghost use Rattle.engine_spec.specs.Logs.{told_logs};
+ghost use Rattle.engine_spec.specs.Seen.{Found, Fails, OnlyFaults, Checkpoints};
 ghost use Rattle.page_face.specs.Pins.{IsLive};
 ghost use Rattle.acts.specs.declared.seats.Seat.{Seat};
 ghost use Rattle.acts.specs.declared.seats.State.TheVariants as state;
-ghost use Rattle.run_spec.specs.Range.{IsInRange};
+ghost use Rattle.page_lines.specs.Range.{IsInRange};
 ghost use Rattle.acts.specs.Pagers.{Acts, EndsAll, ReadOpen, FetchOpen, CommitOpen, IsSoundState, IsSoundTransaction, pins_in, StepActs, CopyActs, IsLast};
 ghost use Rattle.acts.specs.Turns.{act_of, Moves, AllLive, Stays, IsRefused, HasBegun, IsBegun};
-ghost use Rattle.run_spec.specs.declared.pins.Pin.{Pin};
-ghost use Rattle.run_spec.specs.declared.lines.Told.TheVariants as reply;
+ghost use Rattle.engine_spec.specs.declared.pins.Pin.{Pin};
+ghost use Rattle.page_lines.specs.declared.lines.Told.TheVariants as reply;
 
 use crate::seats::{Seat, State, Transaction};
 use crate::transaction::{note_fetch, note_own, note_write, own_byte};
 use disk_face::Failed;
-use page_face::{Ckpt, CommitFault, Engine, Mode, Pin, Prepared, Raw, ReadSet, Who};
-use run_spec::Told;
+use page_face::{Ckpt, CommitFault, Engine, Mode, Pin, Prepared, ReadSet, Who};
+use page_lines::{Raw, Told};
 use sqlite_items::Items;
 use std::alloc::{AllocError, Global};
 use std::marker::PhantomData;

@@ -2,8 +2,8 @@
 ghost use Rattle.std.specs.Prelude.{◌≡◌, ℕ, ◌≤◌, [], ◌∷◌, ◌⊎◌, ◌↔◌, IsTrue, IfSome, Contains, take};
 ghost use Rattle.disk_face.specs.Faults.{Rose};
 ghost use Rattle.disk_face.specs.Sink.{Puts};
-ghost use Rattle.run_spec.specs.Serial.{IsSerialFrom};
-ghost use Rattle.run_spec.specs.World.{zeros, start, after};
+ghost use Rattle.page_lines.specs.Serial.{IsSerialFrom};
+ghost use Rattle.page_lines.specs.World.{zeros, start, after};
 ghost use Rattle.page_runs.specs.Outcome.{IsPages, acts_run, status_of, words_refused, PutsFront, Ran};
 
 use disk_face::{Disk, Failed, Salts, Sink, Source, Word};

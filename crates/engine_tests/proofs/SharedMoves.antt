@@ -9,27 +9,27 @@ use Rattle.std.proofs.lemmas.List.{length-replicate}
 use Rattle.std.proofs.lemmas.List.Elements.{All-cons, All-push, Contains-append_right}
 use Rattle.std.proofs.lemmas.List.Folds.{list_any-append, list_any_none}
 use Rattle.page_spec.specs.PageMap.{PageMap, page_size_of}
-use Rattle.run_spec.specs.declared.pins.Pin.{Pin}
-use Rattle.run_spec.specs.declared.pins.Ckpt.{Ckpt}
-use Rattle.run_spec.specs.declared.commits.Commit.{Commit}
-use Rattle.run_spec.specs.declared.commits.Who.{Who}
-use Rattle.run_spec.specs.declared.commits.Receipt.{Receipt}
-use Rattle.run_spec.specs.declared.commits.Receipt.TheVariants.{At, ReadOnly}
-use Rattle.run_spec.specs.declared.commits.CommitFault.{CommitFault}
-use Rattle.run_spec.specs.declared.commits.FetchFault.{FetchFault}
-use Rattle.run_spec.specs.declared.commits.FetchFault.TheVariants as fetch
-use Rattle.run_spec.specs.declared.commits.CommitFault.TheVariants as fault
-use Rattle.run_spec.specs.Change.{laid}
-use Rattle.run_spec.specs.Logs.{with_frames}
-use Rattle.run_spec.specs.Seen.{Seen, Later, Found, Begins, Submitted, IsClear, Accepts, Refuses, Checkpoints, Fails, OnlyFaults, commit_of, written, pages_after}
-use Rattle.run_spec.specs.PageLines.{WritePage, IsPageStore, PageLinesLead}
-use Rattle.run_spec.proofs.Laying.{page_at-length}
-use Rattle.run_spec.proofs.Transactions.{with_image-are, none_are, fills_none, fills_write}
-use Rattle.run_spec.specs.PageLineLaws.{rests}
-use Rattle.run_spec.specs.History.{statements_of}
-use Rattle.run_spec.specs.World.{zeros}
-use Rattle.run_spec.proofs.GoodLines.{good_lines}
-use Rattle.run_spec.proofs.SerialLaw.{zeros_are_store}
+use Rattle.engine_spec.specs.declared.pins.Pin.{Pin}
+use Rattle.engine_spec.specs.declared.pins.Ckpt.{Ckpt}
+use Rattle.engine_spec.specs.declared.commits.Commit.{Commit}
+use Rattle.engine_spec.specs.declared.commits.Who.{Who}
+use Rattle.engine_spec.specs.declared.commits.Receipt.{Receipt}
+use Rattle.engine_spec.specs.declared.commits.Receipt.TheVariants.{At, ReadOnly}
+use Rattle.engine_spec.specs.declared.commits.CommitFault.{CommitFault}
+use Rattle.engine_spec.specs.declared.commits.FetchFault.{FetchFault}
+use Rattle.engine_spec.specs.declared.commits.FetchFault.TheVariants as fetch
+use Rattle.engine_spec.specs.declared.commits.CommitFault.TheVariants as fault
+use Rattle.engine_spec.specs.Change.{laid}
+use Rattle.engine_spec.specs.Logs.{with_frames}
+use Rattle.engine_spec.specs.Seen.{Seen, Later, Found, Begins, Submitted, IsClear, Accepts, Refuses, Checkpoints, Fails, OnlyFaults, commit_of, written, pages_after}
+use Rattle.page_lines.specs.PageLines.{WritePage, IsPageStore, PageLinesLead}
+use Rattle.engine_spec.proofs.Laying.{page_at-length}
+use Rattle.page_lines.proofs.Transactions.{with_image-are, none_are, fills_none, fills_write}
+use Rattle.page_lines.specs.PageLineLaws.{rests}
+use Rattle.engine_spec.specs.History.{statements_of}
+use Rattle.page_lines.specs.World.{zeros}
+use Rattle.page_lines.proofs.GoodLines.{good_lines}
+use Rattle.page_lines.proofs.SerialLaw.{zeros_are_store}
 use Rattle.page_face.specs.Pins.{IsLive, KeepsPins, AddsPin, TakesPin}
 use Rattle.page_face.specs.Fetch.{FetchedIn}
 use Rattle.page_face.specs.declared.prepared.Prepared.{Prepared}

@@ -4,8 +4,8 @@ use Rattle.std.specs.Prelude.{All, Contains, OnOk, OnErr, ◌⊎◌}
 use Rattle.std.proofs.lemmas.List.{get_or_append_left}
 use Rattle.std.proofs.lemmas.List.Elements.{All-contains_itself, All-weaker, All-contains}
 use Rattle.page_spec.specs.PageMap.{PageMap, page_at}
-use Rattle.run_spec.specs.PageSet.{with_page}
-use Rattle.run_spec.proofs.PageSets.{with_cases}
+use Rattle.engine_spec.specs.PageSet.{with_page}
+use Rattle.engine_spec.proofs.PageSets.{with_cases}
 
 -- a bound on a set's pages holds with one page more that meets it
 pub bounded_with : (pages : List ℕ) (page n : ℕ) → page ≤ n → All (λ p. p ≤ n) pages → All (λ p. p ≤ n) (with_page pages page)

@@ -2,10 +2,10 @@
 use Rattle.std.specs.Prelude.{◌≡◌, ℕ, ◌≤◌, ◌==◌, true, if◌then◌else◌, zero, suc, List, [], ◌∷◌, ◌++◌, length, replicate, slice_get, Option, All}
 use Rattle.std.specs.List.{list_any}
 use Rattle.page_spec.specs.PageMap.{PageMap}
-use Rattle.run_spec.specs.declared.pins.Pin.{Pin}
-use Rattle.run_spec.specs.declared.commits.Mode.TheVariants.{Concurrent}
-use Rattle.run_spec.specs.PageLines.{IsPageStore, PageLinesLead, write_text}
-use Rattle.run_spec.specs.Seen.{Seen, Later, Submitted, IsCommitted}
+use Rattle.engine_spec.specs.declared.pins.Pin.{Pin}
+use Rattle.engine_spec.specs.declared.commits.Mode.TheVariants.{Concurrent}
+use Rattle.page_lines.specs.PageLines.{IsPageStore, PageLinesLead, write_text}
+use Rattle.engine_spec.specs.Seen.{Seen, Later, Submitted, IsCommitted}
 use Rattle.page_face.specs.Pins.{KeepsPins}
 use Rattle.page_face.specs.declared.prepared.Prepared.{Prepared}
 use Rattle.memory_engine.specs.Plain.{PlainState, IsPlain, PlainLive, PlainRuns, plain_seen}

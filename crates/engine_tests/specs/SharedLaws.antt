@@ -1,7 +1,7 @@
 -- Laws of the engine to which others commit.
 use Rattle.page_spec.specs.PageMap.{PageMap}
-use Rattle.run_spec.specs.PageLines.{IsPageStore, PageLinesLead}
-use Rattle.run_spec.specs.Good.{RunsFrom}
+use Rattle.page_lines.specs.PageLines.{IsPageStore, PageLinesLead}
+use Rattle.engine_spec.specs.Good.{RunsFrom}
 use Rattle.page_face.specs.Pins.{IsLive}
 use Rattle.memory_engine.specs.Plain.{PlainLive, plain_seen}
 use Rattle.memory_engine.specs.PlainLaws.{plain_run}

@@ -3,7 +3,7 @@
 #![tactic(auto)]
 
 #[cfg(test)]
-mod page_lines;
+mod lines;
 #[cfg(test)]
 mod shared;
 #[cfg(test)]

@@ -2,21 +2,22 @@
 ghost use Rattle.std.specs.Prelude.{◌≡◌, ◌<◌, ◌≤◌, vec_len, List, [], ◌∷◌, ◌++◌, length, replicate, IfOk, IfSome, MatchOption, MatchResult};
 ghost use Rattle.std.specs.Vec.{vec_capacity};
 ghost use Rattle.page_spec.specs.PageMap.{PageMap};
-ghost use Rattle.run_spec.specs.declared.pins.Pin.{Pin};
-ghost use Rattle.run_spec.specs.PageLines.{write_text};
-ghost use Rattle.run_spec.specs.Seen.{Found, Accepts, Refuses};
-ghost use Rattle.run_spec.specs.World.{zeros};
+ghost use Rattle.engine_spec.specs.declared.pins.Pin.{Pin};
+ghost use Rattle.page_lines.specs.PageLines.{write_text};
+ghost use Rattle.engine_spec.specs.Seen.{Found, Accepts, Refuses};
+ghost use Rattle.page_lines.specs.World.{zeros};
 ghost use Rattle.page_face.specs.Pins.{IsLive, KeepsPins};
 ghost use Rattle.page_face.specs.Prepared.{submitted, IsFit, IsGood};
 ghost use Rattle.memory_engine.specs.Plain.{IsPlain, PlainLive, plain_seen};
 ghost use Rattle.engine_tests.specs.Shared.{shared_seen, SharedLive, plain_map, LinesRun, OthersCame, SomeCommitted, IsWrite};
 
-use crate::page_lines::{answered_by, begin, busy, commit, read, write};
+use crate::lines::{answered_by, begin, busy, commit, read, write};
 use acts::{Told, engine_of_zeros};
 use disk_face::{Bytes, Failed, Txt};
 use memory_engine::Plain;
+use page_lines::Raw;
 use page_face::{
-    Ckpt, CommitFault, Engine, FetchFault, Logs, Means, Mode, PageImage, Pin, Prepared, Raw,
+    Ckpt, CommitFault, Engine, FetchFault, Logs, Means, Mode, PageImage, Pin, Prepared,
     ReadSet, Receipt, Who,
 };
 use sqlite_items::Items;

@@ -3,7 +3,8 @@ ghost use Rattle.std.specs.Prelude.{◌≡◌, ◌∷◌, [], List, ℕ, length,
 
 use disk_face::Bytes;
 use memory_engine::Plain;
-use page_face::{Engine, Raw};
+use page_face::Engine;
+use page_lines::Raw;
 use std::alloc::{AllocError, Global};
 use std::test::Fail;
 

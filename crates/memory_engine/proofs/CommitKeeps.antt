@@ -7,20 +7,20 @@ use Rattle.std.proofs.lemmas.List.{get_or_append_left, get_or-drop, take-append-
 use Rattle.std.proofs.Math.Seq.{get_or-append_seam}
 use Rattle.std.proofs.lemmas.Grind.{flat_map-append}
 use Rattle.page_spec.specs.PageMap.{PageMap, page_size_of}
-use Rattle.run_spec.specs.declared.pins.Pin.{Pin}
-use Rattle.run_spec.specs.declared.commits.Commit.{Commit}
-use Rattle.run_spec.specs.declared.commits.Mode.{Mode}
-use Rattle.run_spec.specs.declared.commits.Mode.TheVariants.{Plain, Concurrent}
-use Rattle.run_spec.specs.declared.commits.Who.{Who}
-use Rattle.run_spec.specs.declared.commits.Receipt.{Receipt}
-use Rattle.run_spec.specs.declared.commits.Receipt.TheVariants.{At}
-use Rattle.run_spec.specs.declared.commits.CommitFault.{CommitFault}
-use Rattle.run_spec.specs.declared.commits.CommitFault.TheVariants as fault
-use Rattle.run_spec.specs.Change.{laid}
-use Rattle.run_spec.specs.History.{counts, NoConflict, statements_of, SnapsBefore}
-use Rattle.run_spec.specs.Seen.{Submitted, Found, Accepts, Refuses, IsCommitted, commit_of, IsClear, pages_after}
-use Rattle.run_spec.specs.Good.{MayLayOn}
-use Rattle.run_spec.proofs.Laying.{laid-length, page_at-length}
+use Rattle.engine_spec.specs.declared.pins.Pin.{Pin}
+use Rattle.engine_spec.specs.declared.commits.Commit.{Commit}
+use Rattle.engine_spec.specs.declared.commits.Mode.{Mode}
+use Rattle.engine_spec.specs.declared.commits.Mode.TheVariants.{Plain, Concurrent}
+use Rattle.engine_spec.specs.declared.commits.Who.{Who}
+use Rattle.engine_spec.specs.declared.commits.Receipt.{Receipt}
+use Rattle.engine_spec.specs.declared.commits.Receipt.TheVariants.{At}
+use Rattle.engine_spec.specs.declared.commits.CommitFault.{CommitFault}
+use Rattle.engine_spec.specs.declared.commits.CommitFault.TheVariants as fault
+use Rattle.engine_spec.specs.Change.{laid}
+use Rattle.engine_spec.specs.History.{counts, NoConflict, statements_of, SnapsBefore}
+use Rattle.engine_spec.specs.Seen.{Submitted, Found, Accepts, Refuses, IsCommitted, commit_of, IsClear, pages_after}
+use Rattle.engine_spec.specs.Good.{MayLayOn}
+use Rattle.engine_spec.proofs.Laying.{laid-length, page_at-length}
 use Rattle.page_face.specs.declared.prepared.Prepared.{Prepared}
 use Rattle.page_face.specs.Prepared.{submitted, change_in, IsFit, IsGood}
 use Rattle.page_face.specs.Pins.{IsLive, KeepsPins}

@@ -1,6 +1,6 @@
 -- Nothing changed meanwhile.
 use Rattle.std.proofs.Common.{[], refl, sym, append-nil, arith, Option, Some, None}
-use Rattle.run_spec.specs.Seen.{Seen, Stop, Later, Found, KeepsStop}
+use Rattle.engine_spec.specs.Seen.{Seen, Stop, Later, Found, KeepsStop}
 
 -- a place that is there stays
 stop_stays : (stop : Option Stop) → KeepsStop stop stop

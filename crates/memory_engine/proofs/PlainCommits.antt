@@ -8,18 +8,18 @@ use Rattle.std.proofs.lemmas.List.{get_or_append_left, get_or-drop}
 use Rattle.std.proofs.lemmas.List.Elements.{All-append, All-cons}
 use Rattle.std.proofs.Math.Seq.{get_or-append_seam}
 use Rattle.page_spec.specs.PageMap.{PageMap, Agree}
-use Rattle.run_spec.specs.declared.pins.Pin.{Pin}
-use Rattle.run_spec.specs.declared.commits.Commit.{Commit}
-use Rattle.run_spec.specs.declared.commits.Mode.{Mode}
-use Rattle.run_spec.specs.declared.commits.Mode.TheVariants.{Concurrent}
-use Rattle.run_spec.specs.declared.commits.Who.{Who}
-use Rattle.run_spec.specs.Change.{laid}
-use Rattle.run_spec.specs.History.{counts, is_written, conflict, NoConflict}
-use Rattle.run_spec.specs.Seen.{commit_of, written, IsClear, pages_after, frames_after}
-use Rattle.run_spec.specs.Good.{HasSizes}
-use Rattle.run_spec.proofs.Laying.{agree_refl, agree_trans, agree_laid, laid-length, laid-whole, IsWhole}
-use Rattle.run_spec.proofs.GoodLines.{legal_size}
-use Rattle.run_spec.proofs.Conflicts.{no_conflict}
+use Rattle.engine_spec.specs.declared.pins.Pin.{Pin}
+use Rattle.engine_spec.specs.declared.commits.Commit.{Commit}
+use Rattle.engine_spec.specs.declared.commits.Mode.{Mode}
+use Rattle.engine_spec.specs.declared.commits.Mode.TheVariants.{Concurrent}
+use Rattle.engine_spec.specs.declared.commits.Who.{Who}
+use Rattle.engine_spec.specs.Change.{laid}
+use Rattle.engine_spec.specs.History.{counts, is_written, conflict, NoConflict}
+use Rattle.engine_spec.specs.Seen.{commit_of, written, IsClear, pages_after, frames_after}
+use Rattle.engine_spec.specs.Good.{HasSizes}
+use Rattle.engine_spec.proofs.Laying.{agree_refl, agree_trans, agree_laid, laid-length, laid-whole, IsWhole}
+use Rattle.engine_spec.proofs.Laying.{legal_size}
+use Rattle.engine_spec.proofs.Conflicts.{no_conflict}
 use Rattle.page_face.specs.declared.prepared.Prepared.{Prepared}
 use Rattle.page_face.specs.Prepared.{submitted, change_in, IsFit}
 use Rattle.page_face.specs.Pins.{IsLive}

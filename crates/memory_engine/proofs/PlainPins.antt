@@ -5,7 +5,7 @@ use Rattle.std.proofs.lemmas.Option.{slice_get-get_or}
 use Rattle.std.proofs.lemmas.List.{get_or-append-add, get_or_append_left}
 use Rattle.std.proofs.lemmas.List.Elements.{All-append, All-cons}
 use Rattle.page_spec.specs.PageMap.{PageMap}
-use Rattle.run_spec.specs.declared.pins.Pin.{Pin}
+use Rattle.engine_spec.specs.declared.pins.Pin.{Pin}
 use Rattle.page_face.specs.Pins.{AddsPin, TakesPin}
 use Rattle.memory_engine.specs.Plain.{PlainState, IsPlain, Holds, PlainLive, newest_of}
 

@@ -2,13 +2,13 @@
 use Rattle.std.specs.Prelude.{◌≡◌, ℕ, ◌+◌, ◌-◌, ◌^◌, ◌<◌, ◌≤◌, true, false, if◌then◌else◌, nat_lt, List, [], ◌∷◌, ◌++◌, length, take, Contains, Some, None, All, slice_get, slice_index, suc, zero}
 use Rattle.std.specs.List.{slice_index_or}
 use Rattle.page_spec.specs.PageMap.{PageMap, Agree, page_sizes}
-use Rattle.run_spec.specs.declared.pins.Pin.{Pin}
-use Rattle.run_spec.specs.declared.commits.Commit.{Commit}
-use Rattle.run_spec.specs.declared.commits.Mode.TheVariants as mode
-use Rattle.run_spec.specs.History.{counts, statements_of, SnapsBefore}
-use Rattle.run_spec.specs.Good.{HasSizes}
-use Rattle.run_spec.specs.Change.{laid}
-use Rattle.run_spec.specs.Seen.{Seen, Submitted, commit_of}
+use Rattle.engine_spec.specs.declared.pins.Pin.{Pin}
+use Rattle.engine_spec.specs.declared.commits.Commit.{Commit}
+use Rattle.engine_spec.specs.declared.commits.Mode.TheVariants as mode
+use Rattle.engine_spec.specs.History.{counts, statements_of, SnapsBefore}
+use Rattle.engine_spec.specs.Good.{HasSizes}
+use Rattle.engine_spec.specs.Change.{laid}
+use Rattle.engine_spec.specs.Seen.{Seen, Submitted, commit_of}
 use Rattle.page_face.specs.declared.prepared.Prepared.{Prepared}
 
 -- what the engine holds: the page size and the bytes of a page in use, the maps, first the one at the start and then the one after

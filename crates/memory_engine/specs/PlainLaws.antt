@@ -4,9 +4,9 @@ use Rattle.std.proofs.Common.{subst, sym, ap, arith, refl, inl, inr, ◌∙◌}
 use Rattle.std.proofs.lemmas.Option.{get_or_from_slice_get, slice_get-get_or, slice_get_cases}
 use Rattle.std.proofs.lemmas.List.{take_all}
 use Rattle.page_spec.specs.PageMap.{PageMap}
-use Rattle.run_spec.specs.declared.pins.Pin.{Pin}
-use Rattle.run_spec.specs.History.{statements_of}
-use Rattle.run_spec.specs.Good.{HasSizes, RunsFrom}
+use Rattle.engine_spec.specs.declared.pins.Pin.{Pin}
+use Rattle.engine_spec.specs.History.{statements_of}
+use Rattle.engine_spec.specs.Good.{HasSizes, RunsFrom}
 use Rattle.page_face.specs.Pins.{IsLive}
 use Rattle.memory_engine.specs.Plain.{PlainState, IsPlain, Holds, PlainRuns, PlainLive, plain_seen, newest_of}
 

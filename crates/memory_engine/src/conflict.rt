@@ -1,8 +1,8 @@
 // Which page bars a commit.
 ghost use Rattle.std.specs.Prelude.{◌≡◌, ◌+◌, ◌<◌, ◌≤◌, ◌^◌, length, drop};
-ghost use Rattle.run_spec.specs.History.{counts, first_writer, conflict, lesser};
+ghost use Rattle.engine_spec.specs.History.{counts, first_writer, conflict, lesser};
 
-use run_spec::{Commit, Mode};
+use engine_spec::{Commit, Mode};
 
 /// Whether the commit counts as having written the page, for a transaction of this mode.
 pub fn does_count(mode: Mode, page: u32, commit: &Commit) -> bool

@@ -1,10 +1,10 @@
 // Laying a change over a map.
 ghost use Rattle.std.specs.Prelude.{◌≡◌, ℕ, ◌+◌, ◌-◌, ◌<◌, ◌≤◌, ◌==◌, not, [], ◌∷◌, ◌++◌, length, drop, if◌then◌else◌, map, filter, IfOk, OnOk, All};
 ghost use Rattle.page_spec.specs.PageMap.{page_at};
-ghost use Rattle.run_spec.specs.Change.{schema_fields, laid_first, laid_page, put_page, put_pages};
+ghost use Rattle.engine_spec.specs.Change.{schema_fields, laid_first, laid_page, put_page, put_pages};
 
 use crate::shared_page::SharedPage;
-use run_spec::{Mode, PageImage};
+use engine_spec::{Mode, PageImage};
 use sqlite_items::Items;
 use std::alloc::{AllocError, Global};
 

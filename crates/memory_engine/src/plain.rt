@@ -1,10 +1,10 @@
 // An engine that keeps each of its page maps in memory.
 ghost use Rattle.std.specs.Prelude.{◌≡◌, ℕ, ◌+◌, ◌^◌, ◌<◌, ◌≤◌, List, [], ◌∷◌, ◌++◌, length, IfOk, OnOk, OnErr, IfErr, IfSome, MatchOption, true, false, ◌*◌, ◌⊎◌, vec_len, All, Contains, map, MatchResult};
 ghost use Rattle.page_spec.specs.PageMap.{PageMap, page_at, page_size_of, page_sizes};
-ghost use Rattle.run_spec.specs.Good.{HasSizes};
+ghost use Rattle.engine_spec.specs.Good.{HasSizes};
 ghost use Rattle.std.specs.Vec.{vec_capacity};
-ghost use Rattle.run_spec.specs.Change.{laid};
-ghost use Rattle.run_spec.specs.Seen.{Found, Accepts, Refuses, IsClear};
+ghost use Rattle.engine_spec.specs.Change.{laid};
+ghost use Rattle.engine_spec.specs.Seen.{Found, Accepts, Refuses, IsClear};
 ghost use Rattle.page_face.specs.Pins.{IsLive, KeepsPins};
 ghost use Rattle.page_face.specs.Prepared.{submitted, change_in, IsFit, IsGood};
 ghost use Rattle.memory_engine.specs.Plain.{plain_seen, newest_of, usable_by, committed_state, MayAdd};
@@ -13,10 +13,10 @@ use crate::conflict::find_conflict;
 use crate::lay::{lay, written_pages};
 use crate::shared_page::SharedPage;
 use disk_face::{Bytes, Failed};
+use engine_spec::{Commit, Entry};
 use page_face::{
     Ckpt, CommitFault, Engine, FetchFault, Lock, Logs, Means, Pin, Prepared, Receipt, Who,
 };
-use run_spec::{Commit, Entry};
 use sqlite_items::Items;
 use std::alloc::{AllocError, Global};
 use std::marker::{Model, PhantomData};

@@ -4,8 +4,8 @@ use Rattle.std.specs.List.{insert}
 use Rattle.std.specs.List.Sorted.{IsStrictlyIncreasing, IsBinarySearchResult}
 use Rattle.std.specs.Ordering.{nat_cmp}
 use Rattle.std.proofs.lemmas.List.Sorted.{searched}
-use Rattle.run_spec.specs.PageSet.{with_page}
-use Rattle.run_spec.proofs.PageSets.{rises_far, with_rises, with_there, with_new}
+use Rattle.engine_spec.specs.PageSet.{with_page}
+use Rattle.engine_spec.proofs.PageSets.{rises_far, with_rises, with_there, with_new}
 
 -- a page that is found is in the set already
 pub found : (pages : List ℕ) (page at : ℕ) → IsStrictlyIncreasing pages

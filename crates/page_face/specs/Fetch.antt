@@ -1,8 +1,8 @@
 -- What a fetch through an engine is answered.
 use Rattle.std.specs.Prelude.{◌≡◌, Result, Ok, Err}
-use Rattle.run_spec.specs.declared.commits.FetchFault.{FetchFault}
-use Rattle.run_spec.specs.declared.commits.FetchFault.TheVariants as fault
-use Rattle.run_spec.specs.Seen.{Seen, OnlyFaults, Fails}
+use Rattle.engine_spec.specs.declared.commits.FetchFault.{FetchFault}
+use Rattle.engine_spec.specs.declared.commits.FetchFault.TheVariants as fault
+use Rattle.engine_spec.specs.Seen.{Seen, OnlyFaults, Fails}
 
 -- A fetch changes nothing but the count of faults. It fails only where the disk did.
 abbrev pub FetchedIn : {T : Type 0} → Seen → Result T FetchFault → Seen → Type 0

@@ -3,8 +3,8 @@
 use Rattle.std.specs.Prelude.{◌≡◌, ◌≢◌, ℕ, ◌+◌, ◌*◌, ◌^◌, ◌<◌, ◌≤◌, List}
 use Rattle.disk_face.specs.Faults.{Rose}
 use Rattle.page_spec.specs.View.{View, view_with, freelist_fields, but_freelist}
-use Rattle.run_spec.specs.declared.commits.FetchFault.{FetchFault}
-use Rattle.run_spec.specs.declared.commits.FetchFault.TheVariants as fault
+use Rattle.engine_spec.specs.declared.commits.FetchFault.{FetchFault}
+use Rattle.engine_spec.specs.declared.commits.FetchFault.TheVariants as fault
 
 -- The same numbers are free as before, and the freelist is in order, and has a page to spare, where it did.
 pub record KeepsFree {P : Type 0} (is_free : P → View → ℕ → Type 0) (is_neat has_spare : P → View → Type 0) (old new : P) (world : View) : Type 0 where

@@ -2,7 +2,7 @@
 -- they stand there; `map_at` gives a pin's map.
 use Rattle.std.specs.Prelude.{◌≡◌, List, ◌∷◌, ◌++◌, Contains, Option}
 use Rattle.page_spec.specs.PageMap.{PageMap}
-use Rattle.run_spec.specs.declared.pins.Pin.{Pin}
+use Rattle.engine_spec.specs.declared.pins.Pin.{Pin}
 
 -- the pin holds
 abbrev pub IsLive : {E : Type 0} → (E → List Pin → Type 0) → E → Pin → Type 0

@@ -1,13 +1,13 @@
 -- What a transaction that is handed in has to be.
 use Rattle.std.specs.Prelude.{Contains, ◌≡◌, ℕ, ◌≤◌, List, [], length, All, map}
 use Rattle.page_spec.specs.PageMap.{PageMap}
-use Rattle.run_spec.specs.PageSet.{AreDifferent}
-use Rattle.run_spec.specs.declared.pins.Pin.{Pin}
-use Rattle.run_spec.specs.declared.commits.Who.{Who}
-use Rattle.run_spec.specs.declared.commits.Mode.TheVariants.{Plain}
-use Rattle.run_spec.specs.Change.{Change}
-use Rattle.run_spec.specs.Seen.{Seen, Submitted}
-use Rattle.run_spec.specs.Good.{Good}
+use Rattle.engine_spec.specs.PageSet.{AreDifferent}
+use Rattle.engine_spec.specs.declared.pins.Pin.{Pin}
+use Rattle.engine_spec.specs.declared.commits.Who.{Who}
+use Rattle.engine_spec.specs.declared.commits.Mode.TheVariants.{Plain}
+use Rattle.engine_spec.specs.Change.{Change}
+use Rattle.engine_spec.specs.Seen.{Seen, Submitted}
+use Rattle.engine_spec.specs.Good.{Good}
 use Rattle.page_face.specs.declared.prepared.Prepared.{Prepared}
 
 -- what the transaction changed

@@ -1,10 +1,10 @@
 // A store of page maps as its callers see it.
 ghost use Rattle.std.specs.Prelude.{◌≡◌, ℕ, ◌≤◌, List, length, Contains, Option, IsSome, IfSome, MatchResult, OnOk};
 ghost use Rattle.page_spec.specs.PageMap.{PageMap, page_at, page_sizes};
-ghost use Rattle.run_spec.specs.declared.pins.Pin.{Pin};
-ghost use Rattle.run_spec.specs.Seen.{Seen, Found, Later, Begins, Ends, Accepts, Refuses, Checkpoints, Fails, OnlyFaults};
-ghost use Rattle.run_spec.specs.Logs.{told_logs};
-ghost use Rattle.run_spec.specs.Good.{RunsFrom, HasSizes};
+ghost use Rattle.engine_spec.specs.declared.pins.Pin.{Pin};
+ghost use Rattle.engine_spec.specs.Seen.{Seen, Found, Later, Begins, Ends, Accepts, Refuses, Checkpoints, Fails, OnlyFaults};
+ghost use Rattle.engine_spec.specs.Logs.{told_logs};
+ghost use Rattle.engine_spec.specs.Good.{RunsFrom, HasSizes};
 ghost use Rattle.page_face.specs.Pins.{IsLive, KeepsPins, AddsPin, TakesPin};
 ghost use Rattle.page_face.specs.Prepared.{submitted, IsFit, IsGood};
 ghost use Rattle.page_face.specs.Fetch.{FetchedIn};

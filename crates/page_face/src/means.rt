@@ -1,8 +1,6 @@
-// What statements mean, and what a view tells of a store.
-ghost use Rattle.std.specs.Prelude.{List, [], ◌++◌, ℕ, Option};
+// What statements mean.
+ghost use Rattle.std.specs.Prelude.{List, [], ◌++◌, ℕ};
 ghost use Rattle.page_spec.specs.PageMap.{PageMap};
-ghost use Rattle.run_spec.specs.declared.pins.Pin.{Pin};
-ghost use Rattle.run_spec.specs.Seen.{Seen};
 
 /// What the statements of a store do to its page maps. It has no calls.
 pub trait Means {
@@ -18,19 +16,4 @@ pub trait Means {
     /// What some statements and then others lead to, all of them lead to.
     ghost joins: { (first before between after : PageMap) (some others : List (List ℕ)) → leads first before some between
         → leads first between others after → leads first before (some ++ others) after };
-}
-
-/// What a thread's view tells of a store. It has no calls.
-pub trait Kept {
-    /// What the statements of the store mean.
-    type Meaning: Means;
-
-    /// What the store tells of itself.
-    ghost seen: { Self → Seen };
-
-    /// The pins that hold in the store.
-    ghost held: { Self → List Pin };
-
-    /// The map of a pin that holds, where the store tells its bytes.
-    ghost map_at: { Self → Pin → Option PageMap };
 }

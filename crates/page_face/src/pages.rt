@@ -2,7 +2,7 @@
 ghost use Rattle.std.specs.Prelude.{◌≡◌, ℕ, ◌+◌, ◌*◌, ◌^◌, ◌<◌, ◌≤◌, ◌↔◌, max, Bool, true, ◌||◌, ◌==◌, if◌then◌else◌, List, length, Contains, IfOk, IfErr, OnOk, OnErr};
 ghost use Rattle.page_spec.specs.PageMap.{page_sizes};
 ghost use Rattle.page_spec.specs.View.{View};
-ghost use Rattle.run_spec.specs.PageSet.{with_page};
+ghost use Rattle.engine_spec.specs.PageSet.{with_page};
 ghost use Rattle.page_face.specs.Pages.{KeepsPages, PutsPage, TakesPage, GivesUp, IsOutside, BarsFresh, BarsNeat};
 
 use crate::FetchFault;

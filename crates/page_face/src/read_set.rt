@@ -1,6 +1,6 @@
 // The pages that a transaction read.
 ghost use Rattle.std.specs.Prelude.{◌≡◌, [], OnOk, OnErr};
-ghost use Rattle.run_spec.specs.PageSet.{with_page};
+ghost use Rattle.engine_spec.specs.PageSet.{with_page};
 
 use std::alloc::{AllocError, Global};
 use std::marker::Model;

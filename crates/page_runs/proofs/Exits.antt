@@ -8,9 +8,9 @@ use Rattle.disk_face.specs.Faults.{Rose}
 use Rattle.disk_face.specs.Sink.{Puts}
 use Rattle.disk_face.specs.declared.source.Source as sources
 use Rattle.disk_face.specs.declared.sink.Sink as sinks
-use Rattle.run_spec.specs.declared.lines.Act.{Act}
-use Rattle.run_spec.specs.Reply.{reply_text, session_of}
-use Rattle.run_spec.specs.World.{World, step, start, after}
+use Rattle.page_lines.specs.declared.lines.Act.{Act}
+use Rattle.page_lines.specs.Reply.{reply_text, session_of}
+use Rattle.page_lines.specs.World.{World, step, start, after}
 use Rattle.script.specs.declared.grammar.Act2.TheVariants as page
 use Rattle.script.specs.declared.grammar.Form.TheVariants.{Pages}
 use Rattle.script.specs.declared.grammar.Line.{Line}
@@ -24,7 +24,7 @@ use Rattle.page_runs.specs.declared.status.Status.TheVariants as ended
 use Rattle.page_runs.specs.declared.lines.Next.{Next}
 use Rattle.page_runs.specs.declared.lines.Next.TheVariants as next
 use Rattle.acts.specs.InMemory.{Memory, IsAt}
-use Rattle.run_spec.specs.Range.{IsInRange}
+use Rattle.page_lines.specs.Range.{IsInRange}
 use Rattle.page_runs.specs.Reading.{Reading, script_left, WhereTold, Advances}
 use Rattle.page_runs.specs.Outcome.{act_in, acts_in, replies, line_in, lines_run, is_refused, refused_text, text_of, status_of, source_failed, cut_text, PutsFront, IsCut, Ran, RunEnds, SaysLast}
 use Rattle.page_runs.specs.Status.{code_of, Blames}

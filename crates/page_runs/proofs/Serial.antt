@@ -3,11 +3,11 @@ use Rattle.std.proofs.Common.{◌≡◌, ℕ, ◌+◌, true, false, Bool, cond, 
 use Rattle.std.specs.List.{filter_map, cons_option}
 use Rattle.std.proofs.lemmas.List.Elements.{All-cons, All-nil, All-take}
 use Rattle.std.proofs.lemmas.Option.{none-some}
-use Rattle.run_spec.specs.declared.lines.Act.{Act}
-use Rattle.run_spec.specs.Range.{IsInRange, AreInRange}
-use Rattle.run_spec.specs.Serial.{IsSerialFrom}
-use Rattle.run_spec.specs.World.{zeros, start, after}
-use Rattle.run_spec.proofs.SerialLaw.{serial_from_start}
+use Rattle.page_lines.specs.declared.lines.Act.{Act}
+use Rattle.page_lines.specs.Range.{IsInRange, AreInRange}
+use Rattle.page_lines.specs.Serial.{IsSerialFrom}
+use Rattle.page_lines.specs.World.{zeros, start, after}
+use Rattle.page_lines.proofs.SerialLaw.{serial_from_start}
 use Rattle.script.specs.declared.grammar.Act2.TheVariants as page
 use Rattle.script.specs.declared.grammar.Form.TheVariants.{Pages}
 use Rattle.script.specs.declared.grammar.Line.{Line}

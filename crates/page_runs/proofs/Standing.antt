@@ -4,9 +4,9 @@ use Rattle.std.specs.List.{filter_map}
 use Rattle.std.proofs.lemmas.List.Elements.{filter_map-append}
 use Rattle.std.proofs.lemmas.Option.{same_Some}
 use Rattle.disk_face.specs.Sink.{Puts}
-use Rattle.run_spec.specs.declared.lines.Act.{Act}
-use Rattle.run_spec.specs.Reply.{reply_text, session_of}
-use Rattle.run_spec.specs.World.{World, step, start, after}
+use Rattle.page_lines.specs.declared.lines.Act.{Act}
+use Rattle.page_lines.specs.Reply.{reply_text, session_of}
+use Rattle.page_lines.specs.World.{World, step, start, after}
 use Rattle.script.specs.declared.grammar.Line.{Line}
 use Rattle.script.specs.Raw.{raw_lines}
 use Rattle.acts.specs.InMemory.{Memory, IsAt}

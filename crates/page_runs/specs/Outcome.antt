@@ -5,10 +5,10 @@ use Rattle.disk_face.specs.Sink.{Puts}
 use Rattle.disk_face.specs.Faults.{Rose}
 use Rattle.disk_face.specs.declared.source.Source as sources
 use Rattle.disk_face.specs.declared.sink.Sink as sinks
-use Rattle.run_spec.specs.declared.lines.Act.{Act}
-use Rattle.run_spec.specs.declared.lines.Act.TheVariants as act
-use Rattle.run_spec.specs.Reply.{reply_text, session_of}
-use Rattle.run_spec.specs.World.{World, step, start}
+use Rattle.page_lines.specs.declared.lines.Act.{Act}
+use Rattle.page_lines.specs.declared.lines.Act.TheVariants as act
+use Rattle.page_lines.specs.Reply.{reply_text, session_of}
+use Rattle.page_lines.specs.World.{World, step, start}
 use Rattle.page_runs.specs.declared.status.Status.{Status}
 use Rattle.page_runs.specs.declared.status.Status.TheVariants as status
 use Rattle.page_runs.specs.Status.{Blames}

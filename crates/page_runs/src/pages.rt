@@ -1,10 +1,10 @@
 // A run of page lines over pages in memory. One line, its run and its reply come before the next line is taken.
 ghost use Rattle.std.specs.Prelude.{◌≡◌, ◌⊎◌, IfSome, OnOk, OnErr};
 ghost use Rattle.disk_face.specs.Sink.{Puts};
-ghost use Rattle.run_spec.specs.Reply.{reply_text, session_of};
-ghost use Rattle.run_spec.specs.World.{World, step, after};
+ghost use Rattle.page_lines.specs.Reply.{reply_text, session_of};
+ghost use Rattle.page_lines.specs.World.{World, step, after};
 ghost use Rattle.acts.specs.InMemory.{IsAt};
-ghost use Rattle.run_spec.specs.Range.{IsInRange};
+ghost use Rattle.page_lines.specs.Range.{IsInRange};
 ghost use Rattle.page_runs.specs.declared.status.Status.TheVariants as status;
 ghost use Rattle.page_runs.specs.Outcome.{act_in, acts_in, page_act, replies, refused_text, PutsFront, RunEnds, SaysLast};
 ghost use Rattle.page_runs.specs.Reply.{CountsReply};
@@ -15,7 +15,7 @@ use crate::output::{say_last, write_all};
 use crate::reply::{refused_line, told_text};
 use acts::InMemory;
 use disk_face::{Failed, Sink, Source};
-use run_spec::Act;
+use page_lines::Act;
 use script::{Act2, Form, Line, line_text, read_line};
 use std::alloc::Global;
 

@@ -1,9 +1,10 @@
 // The text of a reply.
 ghost use Rattle.std.specs.Prelude.{◌≡◌, ◌++◌, take, codes, if◌then◌else◌, decimal, vec_len, OnOk, OnErr};
-ghost use Rattle.run_spec.specs.Reply.{receipt_text, checkpoint_text, logs_text, answer_text, reply_text};
+ghost use Rattle.page_lines.specs.Reply.{receipt_text, checkpoint_text, logs_text, answer_text, reply_text};
 ghost use Rattle.page_runs.specs.Outcome.{refused_text};
 
-use run_spec::{Ckpt, Logs, Receipt, Told};
+use engine_spec::{Ckpt, Logs, Receipt};
+use page_lines::Told;
 use std::alloc::AllocError;
 
 /// Appends the line that tells a session this, its LF included. Session 0 looks after the logs.

@@ -2,9 +2,9 @@ use Rattle.std.proofs.Common.{◌≡◌, ◌∙◌, ℕ, ◌≤◌, List, ◌∷
 use Rattle.std.specs.Prelude.{Contains}
 use Rattle.std.specs.List.{slice_index_or}
 use Rattle.page_spec.specs.PageMap.{PageMap, page_size_of, page_sizes}
-use Rattle.run_spec.specs.declared.commits.Commit.{Commit}
-use Rattle.run_spec.specs.World.{zeros}
-use Rattle.run_spec.proofs.SerialLaw.{zeros_are_store}
+use Rattle.engine_spec.specs.declared.commits.Commit.{Commit}
+use Rattle.page_lines.specs.World.{zeros}
+use Rattle.page_lines.proofs.SerialLaw.{zeros_are_store}
 use Rattle.acts.proofs.in_memory.engine_of_zeros.Goals as goal
 
 -- the newest map has the pages that page lines name

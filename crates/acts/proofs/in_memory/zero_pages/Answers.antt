@@ -1,6 +1,6 @@
 use Rattle.std.proofs.Common.{◌≡◌, ◌∙◌, ℕ, ◌+◌, List, [], ◌∷◌, ◌++◌, replicate, ap, arith}
 use Rattle.std.proofs.lemmas.List.{replicate-append-replicate}
-use Rattle.run_spec.specs.World.{zeros}
+use Rattle.page_lines.specs.World.{zeros}
 use Rattle.acts.proofs.in_memory.zero_pages.Goals as goal
 
 -- one more of the same

@@ -1,5 +1,5 @@
 use Rattle.std.proofs.Common.{drop}
-use Rattle.run_spec.specs.Seen.{Seen}
+use Rattle.engine_spec.specs.Seen.{Seen}
 use Rattle.acts.specs.Pagers.{pins_of, EndsAll}
 use Rattle.acts.specs.Turns.{Stays}
 use Rattle.acts.proofs.pagers.end_all.Given as goal

@@ -1,8 +1,8 @@
 use Rattle.std.proofs.Common.{◌<◌, ◌∙◌, List, [], ◌∷◌, ◌++◌, length, get_or, refl, sym, subst, arith}
 use Rattle.std.proofs.lemmas.List.{append-nil, get_or_default}
-use Rattle.run_spec.specs.declared.lines.Act.{Act}
-use Rattle.run_spec.specs.declared.lines.Act.TheVariants.{Begin}
-use Rattle.run_spec.specs.declared.lines.Told.{Told}
+use Rattle.page_lines.specs.declared.lines.Act.{Act}
+use Rattle.page_lines.specs.declared.lines.Act.TheVariants.{Begin}
+use Rattle.page_lines.specs.declared.lines.Told.{Told}
 use Rattle.acts.specs.declared.seats.Seat.{Seat}
 use Rattle.acts.specs.Pagers.{AreSound, Plays, pins_of}
 use Rattle.acts.proofs.Growth.{acts_go, grew_equal, grew_faults, grew_on}

@@ -1,9 +1,9 @@
 use Rattle.std.proofs.Common.{◌≡◌, ◌≤◌, List, [], ◌++◌, drop}
 use Rattle.std.specs.Prelude.{Contains}
 use Rattle.page_spec.specs.PageMap.{PageMap}
-use Rattle.run_spec.specs.declared.pins.Pin.{Pin}
-use Rattle.run_spec.specs.declared.lines.Told.{Told}
-use Rattle.run_spec.specs.Seen.{Seen}
+use Rattle.engine_spec.specs.declared.pins.Pin.{Pin}
+use Rattle.page_lines.specs.declared.lines.Told.{Told}
+use Rattle.engine_spec.specs.Seen.{Seen}
 use Rattle.acts.specs.Pagers.{AreSound, Grew, Plays, pins_of}
 use Rattle.acts.proofs.playing.play_on.Given as goal
 

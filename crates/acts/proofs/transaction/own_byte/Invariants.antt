@@ -1,5 +1,5 @@
 use Rattle.std.proofs.Common.{◌≡◌, drop}
-use Rattle.run_spec.specs.PageLines.{image_of}
+use Rattle.engine_spec.specs.Change.{image_of}
 use Rattle.acts.proofs.transaction.own_byte.Given as goal
 
 abbrev pub invariant-loop-image : goal.invariant-loop-image

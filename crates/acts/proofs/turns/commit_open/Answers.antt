@@ -1,6 +1,6 @@
 use Rattle.std.proofs.Common.{◌∙◌, ap}
 use Rattle.page_face.specs.declared.prepared.Prepared.{Prepared}
-use Rattle.page_face.specs.declared.raw.Raw.{Raw}
+use Rattle.page_lines.specs.declared.raw.Raw.{Raw}
 use Rattle.acts.specs.declared.seats.Transaction.{Transaction}
 use Rattle.acts.proofs.Outcomes.{some_by, good, done_stays, refused_acts}
 use Rattle.acts.proofs.turns.commit_open.Goals as goal

@@ -1,8 +1,8 @@
 use Rattle.std.proofs.Common.{◌-◌, ◌^◌, ◌≤◌, List, []}
 use Rattle.std.specs.Prelude.{IfSome}
-use Rattle.run_spec.specs.declared.pins.Ckpt.{Ckpt}
-use Rattle.run_spec.specs.declared.lines.Told.{Told}
-use Rattle.run_spec.specs.Seen.{Seen}
+use Rattle.engine_spec.specs.declared.pins.Ckpt.{Ckpt}
+use Rattle.page_lines.specs.declared.lines.Told.{Told}
+use Rattle.engine_spec.specs.Seen.{Seen}
 use Rattle.acts.specs.Pagers.{Copies}
 use Rattle.acts.specs.Turns.{Stays}
 use Rattle.acts.proofs.turns.copy.Given as goal

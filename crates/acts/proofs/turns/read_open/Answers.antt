@@ -1,5 +1,5 @@
 use Rattle.std.proofs.Common.{◌≡◌, None}
-use Rattle.run_spec.specs.PageLines.{image_of}
+use Rattle.engine_spec.specs.Change.{image_of}
 use Rattle.acts.proofs.Outcomes.{sound_own}
 use Rattle.acts.proofs.turns.read_open.Goals as goal
 

@@ -1,5 +1,5 @@
 use Rattle.std.proofs.Common.{◌≡◌, ◌≤◌, drop, length}
-use Rattle.run_spec.specs.History.{conflict}
+use Rattle.engine_spec.specs.History.{conflict}
 use Rattle.memory_engine.proofs.conflict.find_conflict.Given as goal
 
 abbrev pub invariant-loop-left : goal.invariant-loop-left

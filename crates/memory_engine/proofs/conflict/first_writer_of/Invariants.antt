@@ -1,5 +1,5 @@
 use Rattle.std.proofs.Common.{◌≡◌, ◌+◌, drop}
-use Rattle.run_spec.specs.History.{first_writer}
+use Rattle.engine_spec.specs.History.{first_writer}
 use Rattle.memory_engine.proofs.conflict.first_writer_of.Given as goal
 
 abbrev pub invariant-loop-index : goal.invariant-loop-index

@@ -4,7 +4,7 @@ use Rattle.page_runs.specs.declared.lines.Next.TheVariants as next
 use Rattle.page_runs.specs.declared.status.Status.TheVariants as ended
 use Rattle.page_runs.specs.Reading.{script_left}
 use Rattle.page_runs.specs.Reply.{CountsReply}
-use Rattle.run_spec.specs.World.{start, after}
+use Rattle.page_lines.specs.World.{start, after}
 use Rattle.page_runs.specs.Outcome.{acts_in, text_of, Ran}
 use Rattle.page_runs.proofs.Serial.{spelled_in_range}
 use Rattle.page_runs.proofs.Fronts.{nothing_yet}

@@ -1,5 +1,5 @@
 use Rattle.std.proofs.Common.{◌≡◌, ◌≤◌, ◌+◌, ◌-◌, IfSome}
-use Rattle.run_spec.specs.World.{World}
+use Rattle.page_lines.specs.World.{World}
 use Rattle.script.specs.Raw.{script_limit}
 use Rattle.acts.specs.InMemory.{IsAt}
 use Rattle.page_runs.specs.Reading.{script_left}

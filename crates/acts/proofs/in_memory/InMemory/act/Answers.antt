@@ -1,6 +1,6 @@
 use Rattle.std.proofs.Common.{sym, subst, Result, Ok, Err}
 use Rattle.std.specs.Prelude.{IfOk, OnErr}
-use Rattle.run_spec.specs.World.{step}
+use Rattle.page_lines.specs.World.{step}
 use Rattle.std.proofs.lemmas.Result.{IfOk-weaker}
 use Rattle.acts.specs.InMemory.{Memory, IsAt}
 use Rattle.acts.proofs.Memory.{memory_acts, memory_wants}

@@ -1,5 +1,5 @@
-use Rattle.run_spec.specs.World.{zeros}
-use Rattle.run_spec.proofs.SerialLaw.{zeros_are_store}
+use Rattle.page_lines.specs.World.{zeros}
+use Rattle.page_lines.proofs.SerialLaw.{zeros_are_store}
 use Rattle.acts.proofs.Memory.{memory_starts}
 use Rattle.acts.proofs.in_memory.InMemory.new.Goals as goal
 

@@ -1,7 +1,7 @@
 use Rattle.std.proofs.Common.{◌≡◌, [], sym, subst}
 use Rattle.engine_tests.specs.Shared.{OthersCame}
 use Rattle.memory_engine.specs.Plain.{plain_seen}
-use Rattle.run_spec.specs.Logs.{told_logs}
+use Rattle.engine_spec.specs.Logs.{told_logs}
 use Rattle.engine_tests.proofs.SharedMoves.{at_once, none_held, whole_same, keeps_after}
 use Rattle.engine_tests.proofs.shared.SharedEngineRaw.logs.Goals as goal
 

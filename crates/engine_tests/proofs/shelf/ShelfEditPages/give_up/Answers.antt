@@ -1,6 +1,6 @@
 use Rattle.std.proofs.Common.{ℕ, List, length, refl, sym, subst, inl, inr}
 use Rattle.std.specs.Prelude.{Contains}
-use Rattle.run_spec.proofs.PageSets.{with_has, with_keeps, with_cases}
+use Rattle.engine_spec.proofs.PageSets.{with_has, with_keeps, with_cases}
 use Rattle.engine_tests.proofs.Shelves.{bounded_after}
 use Rattle.engine_tests.proofs.shelf.ShelfEditPages.give_up.Goals as goal
 

@@ -1,5 +1,5 @@
 use Rattle.std.proofs.Common.{◌∙◌, ap, List, ◌∷◌, filter, map, not, nat_eq}
-use Rattle.run_spec.specs.declared.commits.PageImage.{PageImage}
+use Rattle.engine_spec.specs.declared.commits.PageImage.{PageImage}
 use Rattle.memory_engine.specs.Plain.{PlainState}
 use Rattle.memory_engine.proofs.PlainCommits.{plain_pushed}
 use Rattle.memory_engine.proofs.plain.Plain.add.Goals as goal

@@ -1,6 +1,6 @@
 use Rattle.std.proofs.Common.{◌≡◌, ◌∙◌, ℕ, ◌+◌, ◌*◌, ◌^◌, ◌≤◌, length, refl, sym, ap, subst, inl, inr, arith, get_or, Some, None}
-use Rattle.run_spec.specs.History.{conflict}
-use Rattle.run_spec.proofs.Conflicts.{no_conflict, is_conflict}
+use Rattle.engine_spec.specs.History.{conflict}
+use Rattle.engine_spec.proofs.Conflicts.{no_conflict, is_conflict}
 use Rattle.memory_engine.specs.Plain.{PlainState, newest_of}
 use Rattle.memory_engine.proofs.PlainPins.{newest_is}
 use Rattle.memory_engine.proofs.PlainCommits.{is_clear, pages_are, frames_are}

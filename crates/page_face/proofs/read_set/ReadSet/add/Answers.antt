@@ -1,7 +1,7 @@
 use Rattle.std.proofs.Common.{◌≡◌, List, ℕ, Err, sym, subst, ap, ◌∙◌}
 use Rattle.std.specs.List.Sorted.{IsStrictlyIncreasing, IsBinarySearchResult}
 use Rattle.std.specs.Ordering.{nat_cmp}
-use Rattle.run_spec.specs.PageSet.{with_page}
+use Rattle.engine_spec.specs.PageSet.{with_page}
 use Rattle.page_face.proofs.ReadSets.{found, missed, missed_rises}
 use Rattle.page_face.proofs.read_set.ReadSet.add.Goals as goal
 
