@@ -146,13 +146,13 @@ begin_alike number one other session Out alike = record {
     history = alike.history;
     sessions = λ k.
         ap (λ (snap : ℕ). cond (eqb k session)
-        (Open (record { snap = snap; reads = []; changed = []; said = []; answers = []; wrote = false })) (one.sessions k))
+        (Open (record { snap = snap; reads = []; changed = []; said = []; wrote = false })) (one.sessions k))
         alike.commits
         ∙ ap (λ (old : SessionState). cond (eqb k session)
-        (Open (record { snap = length other.history; reads = []; changed = []; said = []; answers = []; wrote = false })) old)
+        (Open (record { snap = length other.history; reads = []; changed = []; said = []; wrote = false })) old)
         (alike.sessions k);
     since = since_changed number one.sessions session
-        (Open (record { snap = length one.history; reads = []; changed = []; said = []; answers = []; wrote = false }))
+        (Open (record { snap = length one.history; reads = []; changed = []; said = []; wrote = false }))
         alike.within alike.since;
     begun = λ k.
         ap (λ (count : ℕ). cond (eqb k session) (one_more count) (one.begun k)) (alike.begun session)
@@ -177,7 +177,6 @@ read_alike number one other session page (Open transaction) low high here alike 
     (moved other session (Open (record transaction {
       reads = reads_with transaction page;
       said = transaction.said ++ read_text page ∷ [];
-      answers = transaction.answers ++ told.Byte (slice_index bytes 0) ∷ [];
     })) (told.Byte (slice_index bytes 0)))) seen
     (moved_alike number one other session _ (told.Byte (slice_index (shown one transaction page) 0)) here alike)
 read_alike number one other session page (Refused transaction) low high here alike =
@@ -193,7 +192,6 @@ write_alike number one other session page byte (Open transaction) here alike =
     (moved other session (Open (record transaction {
       changed = with_image transaction.changed page (replicate size byte);
       said = transaction.said ++ write_text page byte ∷ [];
-      answers = transaction.answers ++ told.Ok ∷ [];
       wrote = true;
     })) told.Ok)) alike.page_size
     (moved_alike number one other session _ told.Ok here alike)

@@ -4,5 +4,6 @@ pub mod Alone
 pub mod OneMore
 pub mod Ordinals
 pub mod SerialLaw
+pub mod SerialRuns
 pub mod GoingOn
 pub mod AlikeLaw

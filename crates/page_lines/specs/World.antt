@@ -20,13 +20,12 @@ use Rattle.engine_spec.specs.Logs.{told_logs, one_more}
 use Rattle.engine_spec.specs.Seen.{Submitted, commit_of}
 
 -- A transaction of page lines: its snapshot, the pages that it read there, the pages that it wrote, newest last, the texts of its
--- accepted reads and writes, what these were answered, and whether one was a write.
+-- accepted reads and writes, and whether one was a write.
 pub record Transaction : Type 0 where
   pub snap : ℕ
   pub reads : List ℕ
   pub changed : List PageImage
   pub said : List (List ℕ)
-  pub answers : List Told
   pub wrote : Bool
 
 -- A session is out of a transaction, in one, or in one whose COMMIT was refused because of a later commit.
@@ -35,12 +34,11 @@ pub data SessionState : Type 0 where
   Open : Transaction → SessionState
   Refused : Transaction → SessionState
 
--- The world: the page maps, first the one at the start and then the one after each commit, the commits, what the statements of
--- each commit were answered, how each session stands, and how many transactions it has begun.
+-- The world: the page maps, first the one at the start and then the one after each commit, the commits, how each session stands, and
+-- how many transactions it has begun.
 pub record World : Type 0 where
   pub maps : List PageMap
   pub history : List Commit
-  pub answers : List (List Told)
   pub sessions : ℕ → SessionState
   pub begun : ℕ → ℕ
 
@@ -82,7 +80,6 @@ begin world session = record {
       reads = [];
       changed = [];
       said = [];
-      answers = [];
       wrote = false;
     }));
     begun = changed_at world.begun session (one_more (world.begun session));
@@ -107,7 +104,6 @@ read world session transaction page = let byte = told.Byte (slice_index (shown w
     moved world session (Open (record transaction {
       reads = reads_with transaction page;
       said = transaction.said ++ read_text page ∷ [];
-      answers = transaction.answers ++ byte ∷ [];
     })) byte
 
 -- WRITE p b, in a transaction: every byte of the page is set
@@ -116,7 +112,6 @@ write world session transaction page byte =
     moved world session (Open (record transaction {
       changed = with_image transaction.changed page (replicate (page_size_of (newest_map world)) byte);
       said = transaction.said ++ write_text page byte ∷ [];
-      answers = transaction.answers ++ told.Ok ∷ [];
       wrote = true;
     })) told.Ok
 
@@ -150,7 +145,6 @@ committed world session transaction = record {
   world = record world {
     maps = world.maps ++ laid (newest_map world) (change_of world transaction) ∷ [];
     history = world.history ++ commit_of (submitted world session transaction) ∷ [];
-    answers = world.answers ++ transaction.answers ∷ [];
     sessions = changed_at world.sessions session Out;
   };
 }
@@ -218,7 +212,6 @@ abbrev pub world_over : PageMap → World
 world_over pages = record {
   maps = pages ∷ [];
   history = [];
-  answers = [];
   sessions = λ session. Out;
   begun = λ session. 0;
 }

@@ -7,3 +7,4 @@ pub mod Exits
 pub mod Serial
 mod WorkedRuns
 mod Counting
+pub mod Complete

@@ -1,6 +1,6 @@
 -- What a script of acts on pages in memory does: which of its lines are run, what is written, and with which status it ends.
 use Rattle.std.specs.Prelude.{◌≡◌, ◌≢◌, ℕ, ◌+◌, ◌≤◌, ◌⊎◌, Bool, true, false, if◌then◌else◌, List, [], ◌∷◌, ◌++◌, length, take, Option, Some, None, is_some, IfSome, codes, decimal}
-use Rattle.std.specs.List.{filter_map, concat}
+use Rattle.std.specs.List.{filter_map, concat, flat_map}
 use Rattle.disk_face.specs.Sink.{Puts}
 use Rattle.disk_face.specs.Faults.{Rose}
 use Rattle.disk_face.specs.declared.source.Source as sources
@@ -8,7 +8,8 @@ use Rattle.disk_face.specs.declared.sink.Sink as sinks
 use Rattle.page_lines.specs.declared.lines.Act.{Act}
 use Rattle.page_lines.specs.declared.lines.Act.TheVariants as act
 use Rattle.page_lines.specs.Reply.{reply_text, session_of}
-use Rattle.page_lines.specs.World.{World, step, start}
+use Rattle.page_lines.specs.World.{World, start}
+use Rattle.page_lines.specs.Exchanges.{Exchange, exchanges}
 use Rattle.page_runs.specs.declared.status.Status.{Status}
 use Rattle.page_runs.specs.declared.status.Status.TheVariants as status
 use Rattle.page_runs.specs.Status.{Blames}
@@ -44,10 +45,13 @@ act_in line.Logs = Some act.Logs
 abbrev pub acts_in : Line → List Act
 acts_in line = filter_map act_in (line ∷ [])
 
+-- the reply of an exchange
+abbrev pub reply_of : Exchange → List ℕ
+reply_of one = reply_text (session_of one.act) one.told
+
 -- the replies to these acts, one after another, from this world on
 abbrev pub replies : World → List Act → List ℕ
-replies world [] = []
-replies world (first ∷ acts) = reply_text (session_of first) (step world first).told ++ replies (step world first).world acts
+replies world acts = flat_map reply_of (exchanges world acts)
 
 -- what a line says that begins behind so many bytes of the script; none where it is past a limit or not in the grammar
 abbrev pub line_in : ℕ → List ℕ → Option Line
@@ -80,6 +84,10 @@ text_from world number passed raws = replies world (filter_map act_in (lines_run
 -- the acts of a script that are run
 abbrev pub acts_run : List ℕ → List Act
 acts_run script = filter_map act_in (lines_run 0 (raw_lines script))
+
+-- the run of a script: the acts that are run, each with what it is answered, which is what is written
+abbrev pub run_of : List ℕ → List Exchange
+run_of script = exchanges start (acts_run script)
 
 -- how a run over the whole script ends: refused where one of its lines is
 abbrev pub status_of : List ℕ → Status
