@@ -14,8 +14,7 @@ use crate::lost::Lost;
 use crate::names::Names;
 use crate::opening::is_hot;
 use crate::place::place_of;
-use crate::standard::fill;
-use crate::three::{ThreeFiles, open_three};
+use crate::three::ThreeFiles;
 use disk_face::{Disk, DiskTells, Failed, File};
 use std::alloc::Global;
 use std::io::ErrorKind;
@@ -35,8 +34,6 @@ pub struct FileDisk<'a, R: Files> {
     files: ThreeFiles<R::File>,
     lost: Lost,
     faults: u64,
-    // What stands for standard streams that were closed.
-    streams: Vec<R::File>,
 }
 
 impl<'a, R: Files> Model for FileDisk<'a, R> {
@@ -56,10 +53,9 @@ impl<'a, R: Files> FileDisk<'a, R> {
             rt,
             alloc,
             named: None,
-            files: ThreeFiles::missing(),
+            files: ThreeFiles::missing(alloc),
             lost: Lost::none(),
             faults: 0,
-            streams: Vec::new(alloc),
         }
     }
 }
@@ -95,8 +91,7 @@ where
         ensures faults { Counts (is_ok result) self.old.faults self.new.faults }
     {
         let names = counted(&mut self.faults, names_by(self.rt, self.alloc, path))?;
-        self.streams = counted(&mut self.faults, fill(self.rt, self.alloc))?;
-        self.files = counted(&mut self.faults, open_three(self.rt, &names))?;
+        counted(&mut self.faults, self.files.open(self.rt, &names))?;
         self.named = Some(names);
         Ok(())
     }

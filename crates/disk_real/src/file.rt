@@ -44,7 +44,7 @@ impl<F: Read + Write + Seek + OpenFile + Drop> RealFile<F> {
     pub(crate) fn read(&mut self, at: u64, buf: &mut [u8]) -> io::Result<()> {
         match &mut self.open {
             Some(file) => {
-                file.seek(SeekFrom::Start(at))?;
+                uninterrupted(|| file.seek(SeekFrom::Start(at)))?;
                 file.read_exact(buf)
             }
             None if buf.is_empty() => Ok(()),
@@ -56,7 +56,7 @@ impl<F: Read + Write + Seek + OpenFile + Drop> RealFile<F> {
     pub(crate) fn write(&mut self, at: u64, piece: &[u8]) -> io::Result<()> {
         match &mut self.open {
             Some(file) => {
-                file.seek(SeekFrom::Start(at))?;
+                uninterrupted(|| file.seek(SeekFrom::Start(at)))?;
                 file.write_all(piece)
             }
             None => Err(io::Error::from(ErrorKind::NotFound)),

@@ -1,4 +1,7 @@
 // How a database's files are opened and made.
+ghost use Rattle.std.specs.Prelude.{◌≡◌, IfOk, IfSome};
+ghost use Rattle.std.specs.Fs.{file_type, IsSymlink};
+
 use crate::again::uninterrupted;
 use crate::lock::LockFile;
 use crate::moves::take_from;
@@ -45,7 +48,7 @@ pub(crate) fn open_log<R: Files>(rt: &R, path: &str) -> io::Result<Option<R::Fil
     let Some(file) = open_there(rt, path)? else {
         return Ok(None);
     };
-    let opened = file.metadata()?;
+    let opened = uninterrupted(|| file.metadata())?;
     match stands_at(rt, path)? {
         Some(stands) if stands.dev() == opened.dev() && stands.ino() == opened.ino() => Ok(Some(file)),
         _ => Err(io::Error::from(ErrorKind::FilesystemLoop)),
@@ -55,20 +58,20 @@ pub(crate) fn open_log<R: Files>(rt: &R, path: &str) -> io::Result<Option<R::Fil
 /// Makes a log with the permissions of the database file, and with its owner and group where this process may set them. It
 /// fails where something stands at its name, also a link.
 pub(crate) fn make_log<R: Files>(rt: &R, path: &str, database: &R::File) -> io::Result<R::File> {
-    let wanted = database.metadata()?;
+    let wanted = uninterrupted(|| database.metadata())?;
     let mut how = OpenOptions::new();
     how.read(true).write(true).create_new(true).mode(wanted.mode() & PERMISSIONS);
     let log = uninterrupted(|| how.open(rt, path))?;
-    let made = log.metadata()?;
+    let made = uninterrupted(|| log.metadata())?;
     if made.gid() != wanted.gid() {
-        unless_denied(rt.lchown(path, None, Some(wanted.gid())))?;
+        unless_denied(uninterrupted(|| rt.lchown(path, None, Some(wanted.gid()))))?;
     }
     if made.uid() != wanted.uid() {
-        unless_denied(rt.lchown(path, Some(wanted.uid()), None))?;
+        unless_denied(uninterrupted(|| rt.lchown(path, Some(wanted.uid()), None)))?;
     }
     // The process's mask narrows what the log is made with.
     if made.mode() & PERMISSIONS != wanted.mode() & PERMISSIONS {
-        log.set_permissions(Permissions::from_mode(wanted.mode() & PERMISSIONS))?;
+        uninterrupted(|| log.set_permissions(Permissions::from_mode(wanted.mode() & PERMISSIONS)))?;
     }
     Ok(log)
 }
@@ -91,7 +94,9 @@ fn open_there<R: Files>(rt: &R, path: &str) -> io::Result<Option<R::File>> {
 }
 
 /// What stands at a log's name, if anything does. A link is refused, wherever it leads.
-fn stands_at<R: Files>(rt: &R, path: &str) -> io::Result<Option<Metadata>> {
+fn stands_at<R: Files>(rt: &R, path: &str) -> io::Result<Option<Metadata>>
+    ensures { IfOk result (λ found. IfSome found (λ found. ¬ IsSymlink (file_type found))) }
+{
     match uninterrupted(|| fs::symlink_metadata(rt, path)) {
         Ok(found) if found.is_symlink() => Err(io::Error::from(ErrorKind::FilesystemLoop)),
         Ok(found) => Ok(Some(found)),

@@ -25,7 +25,7 @@ pub(crate) fn place_of<R: Files>(rt: &R, alloc: Global, path: &str) -> io::Resul
 fn target_of<R: Files>(rt: &R, alloc: Global, place: &str) -> io::Result<Option<String>> {
     match uninterrupted(|| fs::symlink_metadata(rt, place)) {
         Ok(found) if found.is_symlink() => {
-            let target = rt.read_link(alloc, place)?;
+            let target = uninterrupted(|| rt.read_link(alloc, place))?;
             Ok(Some(target.into_string()))
         }
         Ok(_) => Ok(None),

@@ -16,6 +16,7 @@ enum Turn {
 }
 
 /// The turns of four calls, one after another.
+#[derive(Drop)]
 struct Turns {
     turns: [Turn; 4],
     next: Cell<usize>,
@@ -33,6 +34,7 @@ impl Turns {
 }
 
 /// A standard output that takes what its turns say.
+#[derive(Drop)]
 struct Output {
     turns: Turns,
     taken: RefCell<Vec<u8>>,
@@ -90,6 +92,7 @@ fn a_put_is_one_write_that_is_made(rt: HostRuntime) -> Result<(), Fail> {
 }
 
 /// A reader that gives what its turns say.
+#[derive(Drop)]
 struct Drops {
     turns: Turns,
     left: &'static [u8],

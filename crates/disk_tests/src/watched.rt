@@ -31,6 +31,8 @@ struct Notes {
     free: Cell<[bool; 3]>,
     /// How often a file was opened for writing with a standard descriptor.
     standard_writers: Cell<u32>,
+    /// The file that a link takes the place of just before it is opened.
+    swapped: Cell<&'static str>,
 }
 
 /// The files of a runtime, watched.
@@ -122,6 +124,7 @@ impl<'a> Watched<'a> {
                 fault: RefCell::new(None),
                 free: Cell::new([false; 3]),
                 standard_writers: Cell::new(0),
+                swapped: Cell::new(""),
             },
         )?;
         Ok(Watched { rt, notes })
@@ -133,6 +136,11 @@ impl<'a> Watched<'a> {
             Ok(_) => Ok(()),
             Err(_) => Err(io::Error::from(ErrorKind::Other)),
         }
+    }
+
+    /// Has a link to `other` take the place of this file just before it is opened.
+    pub(crate) fn swap(&self, name: &'static str) {
+        self.notes.swapped.set(name);
     }
 
     /// Has the program started with these standard descriptors closed.
@@ -184,6 +192,10 @@ impl<'a> Files for Watched<'a> {
     fn open_file(&self, how: &OpenOptions, path: &str) -> io::Result<WatchedFile> {
         let name = name_of(path);
         self.notes.note(call_of(how), name)?;
+        if self.notes.swapped.get() == name {
+            self.rt.remove_file(path)?;
+            self.rt.symlink("other", path)?;
+        }
         let file = how.open(self.rt, path)?;
         let number = self.notes.next_number();
         if how.asks_write() && number < 3 {

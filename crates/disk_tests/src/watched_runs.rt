@@ -18,13 +18,13 @@ fn each_sync_is_made_of_the_file_that_is_named(rt: HostRuntime) -> Result<(), Fa
     disk.sync(File::Main).or(Err("sync of a missing file"))?;
     assert!(rt; files.made(""), "a missing file isn't synced");
     disk.write_at(File::Log1, 0, b"abc").or(Err("write"))?;
-    assert!(rt; files.made("make db\nlock db\nmake db-wal\n"));
+    assert!(rt; files.made("open /\nmake db\nlock db\nmake db-wal\n"));
     disk.sync(File::Log1).or(Err("sync"))?;
     assert!(rt; files.made("sync db-wal\nopen t_syncs\nsync t_syncs\n"));
     disk.sync(File::Log1).or(Err("sync again"))?;
     assert!(rt; files.made("sync db-wal\n"));
     disk.write_at(File::Log2, 0, b"de").or(Err("write"))?;
-    assert!(rt; files.made("make db-wal2\n"));
+    assert!(rt; files.made("open /\nmake db-wal2\n"));
     disk.sync(File::Log2).or(Err("sync"))?;
     assert!(rt; files.made("sync db-wal2\nopen t_syncs\nsync t_syncs\n"));
     disk.write_at(File::Main, 0, b"f").or(Err("write"))?;
@@ -59,6 +59,40 @@ fn no_database_has_a_standard_descriptor(rt: HostRuntime) -> Result<(), Fail> {
     Ok(())
 }
 
+// Whatever fails and whoever else goes.
+#[test]
+fn a_descriptor_that_was_filled_stays_so(rt: HostRuntime) -> Result<(), Fail> {
+    empty_folder(&rt, "t_filled")?;
+    fs::write(&rt, "t_filled/db", b"main".as_slice())?;
+    let files = Watched::new(&rt, rt.alloc())?;
+    files.close([true, false, true]);
+    files.fail(once("update", "db", ErrorKind::PermissionDenied, "").fault())?;
+    let mut disk = FileDisk::new(&files, rt.alloc());
+    assert_eq!(rt; disk.attach(b"t_filled/db"), Err(Failed));
+    disk.attach(b"t_filled/db").or(Err("attach again"))?;
+    let mut other = FileDisk::new(&files, rt.alloc());
+    other.attach(b"t_filled/new").or(Err("attach another"))?;
+    drop(disk);
+    other.write_at(File::Log1, 0, b"abc").or(Err("write"))?;
+    assert_eq!(rt; files.standard_writers(), 0);
+    remove_folder(&rt, "t_filled")?;
+    Ok(())
+}
+
+#[test]
+fn a_log_that_a_link_takes_the_place_of_is_refused(rt: HostRuntime) -> Result<(), Fail> {
+    empty_folder(&rt, "t_swap")?;
+    for name in ["t_swap/db", "t_swap/db-wal", "t_swap/other"] {
+        fs::write(&rt, name, b"kept".as_slice())?;
+    }
+    let files = Watched::new(&rt, rt.alloc())?;
+    files.swap("db-wal");
+    let mut disk = FileDisk::new(&files, rt.alloc());
+    assert_eq!(rt; disk.attach(b"t_swap/db"), Err(Failed));
+    remove_folder(&rt, "t_swap")?;
+    Ok(())
+}
+
 /// A fault, and what a run comes to that meets it.
 #[derive(Clone, Copy, Drop)]
 struct Row {
@@ -68,6 +102,18 @@ struct Row {
     times: u32,
     kind: ErrorKind,
     outcome: &'static str,
+}
+
+impl Row {
+    fn fault(&self) -> Fault {
+        Fault {
+            call: self.call,
+            name: self.name,
+            after: self.after,
+            times: self.times,
+            kind: self.kind,
+        }
+    }
 }
 
 // The first such call fails.
@@ -159,13 +205,7 @@ fn outcome(rt: &HostRuntime, row: Row) -> io::Result<String> {
     fs::write(rt, "t_faults/db", b"main".as_slice())?;
     fs::write(rt, "t_faults/db-wal", b"abc".as_slice())?;
     let files = Watched::new(rt, rt.alloc())?;
-    files.fail(Fault {
-        call: row.call,
-        name: row.name,
-        after: row.after,
-        times: row.times,
-        kind: row.kind,
-    })?;
+    files.fail(row.fault())?;
     let mut letters = String::new(rt.alloc());
     let mut disk = FileDisk::new(&files, rt.alloc());
     let attached = disk.attach(b"t_faults/db");
