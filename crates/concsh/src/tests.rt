@@ -2,6 +2,7 @@ use crate::top::top;
 use disk_face::{Failed, Source, Word};
 use disk_mem::{FixedSalts, MemDisk, MemSink, MemSource};
 use std::alloc::{AllocError, Global};
+use std::process::Abort;
 use std::test::Fail;
 
 /// One run, and what it has to come to.
