@@ -1,5 +1,6 @@
 //! Runs a script of lines on standard input, and writes the reply to each on standard output.
 #![tactic(auto)]
+
 ghost use Rattle.std.specs.Prelude.{◌≡◌, drop, map, IfOk, string_bytes};
 ghost use Rattle.std_alloc.specs.Vec.Iter.{into_iter_items};
 

@@ -216,7 +216,13 @@ fn left_in(source: &mut MemSource) -> usize {
 
 /// Twelve lines of eight bytes, of whose replies the one with this number fails. The source gives so many lines at once, and has to
 /// have given no more lines than these when it comes to that reply.
-fn order(rt: &impl Abort, alloc: Global, lines: usize, fails: u64, given: usize) -> Result<(), Fail> {
+fn order(
+    rt: &impl Abort,
+    alloc: Global,
+    lines: usize,
+    fails: u64,
+    given: usize,
+) -> Result<(), Fail> {
     let mut script = Vec::new(alloc);
     for _ in 0..12 {
         script.extend_from_slice(b"0: STEP\n")?;
@@ -247,7 +253,9 @@ fn all_pages(rt: HostRuntime) -> Result<(), Fail> {
     let mut script = b"1: BEGIN\n".to_vec(rt.alloc())?;
     let mut replies = b"1: ok\n".to_vec(rt.alloc())?;
     for page in 2..17_u32 {
-        let lines = format!(in rt.alloc(); "1: READ {page}\n1: WRITE {page} {page}\n1: READ {page}\n")?;
+        let lines = format!(in rt.alloc();
+            "1: READ {page}\n1: WRITE {page} {page}\n1: READ {page}\n"
+        )?;
         script.extend_from_slice(lines.as_bytes())?;
         let told = format!(in rt.alloc(); "1: byte 0\n1: ok\n1: byte {page}\n")?;
         replies.extend_from_slice(told.as_bytes())?;
@@ -267,7 +275,9 @@ fn a_thousand_commits(rt: HostRuntime) -> Result<(), Fail> {
     let mut replies = Vec::new(rt.alloc());
     for commit in 1..1001_u32 {
         let byte = commit % 256;
-        let lines = format!(in rt.alloc(); "7: BEGIN\n7: READ 16\n7: WRITE 16 {byte}\n7: COMMIT\n")?;
+        let lines = format!(in rt.alloc();
+            "7: BEGIN\n7: READ 16\n7: WRITE 16 {byte}\n7: COMMIT\n"
+        )?;
         script.extend_from_slice(lines.as_bytes())?;
         let before = (commit - 1) % 256;
         let told = format!(in rt.alloc(); "7: ok\n7: byte {before}\n7: ok\n7: commit {commit}\n")?;

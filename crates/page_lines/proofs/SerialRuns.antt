@@ -96,8 +96,7 @@ run_grows : (world : World) (acts : List Act) → (more : List PageMap) × ((aft
 run_grows world [] = ([], sym (append-nil world.maps), refl)
 run_grows world (asked ∷ acts) =
     let one = step_grows world asked in
-    let others = run_grows (step world asked).world acts in
-    (
+    let others = run_grows (step world asked).world acts in (
       one.more ++ others.0,
       others.1 ∙ (ap (λ (maps : List PageMap). maps ++ others.0) one.grown ∙ append_assoc world.maps one.more others.0),
       length-append one.more others.0 ∙ count (is_commit (step world asked).told) (length one.more) (length others.0)
@@ -147,8 +146,7 @@ decided_serial s first world past session number transaction None is held whole 
     ap (λ (k : ℕ). slice_index_or (world.maps ++ next ∷ []) k []) before
     ∙ get_or_append_left world.maps (next ∷ []) [] (length world.history) (omega (arith, whole.maps_count)) in
     let new : slice_index_or (world.maps ++ next ∷ []) number [] ≡ next =
-    get_or_push world.maps next [] number (omega (arith, number_is, whole.maps_count)) in
-    (
+    get_or_push world.maps next [] number (omega (arith, number_is, whole.maps_count)) in (
       omega (arith, number_is, whole.commits_count),
       record {
         alone = subst (λ (pages : PageMap). IsToldAlone pages done) (sym old) (held.2.alone (newest_map world) sound agree);
@@ -272,10 +270,13 @@ serial_first s first world past asked acts whole onward =
   where
     one : Exchange
     one = record { act = asked; told = (step world asked).told }
+
     rest : List Exchange
     rest = exchanges (step world asked).world acts
+
     maps : List PageMap
     maps = (after (step world asked).world acts).maps
+
     commits : (moment session number : ℕ)
         → slice_get (one ∷ rest) moment ≡ Some (record { act = act.Commit session; told = told.Done (At number) })
         → (number ≡ commits_in (reverse (take moment (one ∷ rest)) ++ past) + 1)
@@ -288,6 +289,7 @@ serial_first s first world past asked acts whole onward =
     commits (suc moment) session number is =
         subst (λ (all : List Exchange). (number ≡ commits_in all + 1) × IsSerialCommit maps number (transaction_of session all))
         (sym (past_more one rest past moment)) (onward.commits moment session number is)
+
     snapshots : (moment session : ℕ)
         → IsToldAlone (slice_index_or maps (snapshot_of session (reverse (take moment (one ∷ rest)) ++ past)) [])
         (transaction_of session (reverse (take moment (one ∷ rest)) ++ past))
@@ -297,6 +299,7 @@ serial_first s first world past asked acts whole onward =
     snapshots (suc moment) session =
         subst (λ (all : List Exchange). IsToldAlone (slice_index_or maps (snapshot_of session all) []) (transaction_of session all))
         (sym (past_more one rest past moment)) (onward.snapshots moment session)
+
     read_only : (moment session number : ℕ)
         → slice_get (one ∷ rest) moment ≡ Some (record { act = act.Commit session; told = told.Done (ReadOnly number) })
         → number ≡ snapshot_of session (reverse (take moment (one ∷ rest)) ++ past)
