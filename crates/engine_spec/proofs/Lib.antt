@@ -1,3 +1,2 @@
 pub mod Conflicts
 pub mod PageSets
-pub mod Laying
