@@ -37,13 +37,19 @@ unsure before (Wrote piece ∷ steps) = range_of piece ∷ unsure before steps
 unsure before (Refused piece left ∷ steps) = range_of piece ∷ unsure before steps
 unsure before (Synced file ∷ steps) = of_others file (unsure before steps)
 
+-- a place of a file lies outside a range
+abbrev pub IsOutside : File → ℕ → Range → Type 0
+IsOutside file place range = range.file ≡ file → range.from ≤ place → place < range.from + range.count → ⊥
+
 -- none of the ranges has this place of the file
 abbrev pub IsSure : List Range → File → ℕ → Type 0
-IsSure ranges file place = All (λ range. range.file ≡ file → range.from ≤ place → place < range.from + range.count → ⊥) ranges
+IsSure ranges file place = All (IsOutside file place) ranges
 
--- One file of an image is as long as a read gives, and outside these ranges it has the bytes that a read gives.
+-- One file of an image has, outside these ranges, the bytes that a read gives. It may end earlier where none of those bytes
+-- is missing, and never ends later.
 pub record IsFileImage (ranges : List Range) (file : File) (read image : List ℕ) : Type 0 where
-  pub same_length : length image ≡ length read
+  pub no_longer : length image ≤ length read
+  pub reaches : (place : ℕ) → place < length read → IsSure ranges file place → place < length image
   pub sure : (place : ℕ) → place < length read → IsSure ranges file place → slice_index image place ≡ slice_index read place
 
 -- An image of the three files where reads give these ones. The files vary each by itself.
@@ -57,11 +63,3 @@ MayLeave before told image = IsImage (unsure before told.steps) (reads told) ima
 -- the disk as it was this many steps ago
 abbrev pub back : ℕ → History → History
 back ago told = record { first = told.first; steps = drop ago told.steps }
-
--- What a crash might have left at this moment or an earlier one, from the moment when the disk had made `since` steps.
-abbrev pub MightHaveLeft : List Range → History → ℕ → Files → Type 0
-MightHaveLeft before told since image = (ago : ℕ) × (ago + since ≤ length told.steps) × MayLeave before (back ago told) image
-
--- Whatever a crash might have left since then has P.
-abbrev pub AllLeft : List Range → History → ℕ → (Files → Type 0) → Type 0
-AllLeft before told since P = (image : Files) → MightHaveLeft before told since image → P image

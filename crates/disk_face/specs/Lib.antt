@@ -6,4 +6,4 @@ pub mod Files
 pub mod Steps
 pub mod Image
 pub mod Told
-pub mod Chance
+pub mod Stays

@@ -1,6 +1,5 @@
 -- A disk's steps, and what reads give after them. Lists of steps have the newest first.
 use Rattle.std.specs.Prelude.{List, [], ◌∷◌, Option, Some, None}
-use Rattle.disk_face.specs.declared.step.Piece.{Piece}
 use Rattle.disk_face.specs.declared.step.Step.{Step}
 use Rattle.disk_face.specs.declared.step.Step.TheVariants.{Wrote, Refused, Synced}
 use Rattle.disk_face.specs.Files.{Files, put}
@@ -29,10 +28,3 @@ further step told = record { first = told.first; steps = step ∷ told.steps }
 abbrev pub after : Step → Option History → Option History
 after step None = None
 after step (Some told) = Some (further step told)
-
--- the pieces that were handed to writes, whether or not they were refused
-abbrev pub pieces : List Step → List Piece
-pieces [] = []
-pieces (Wrote piece ∷ steps) = piece ∷ pieces steps
-pieces (Refused piece left ∷ steps) = piece ∷ pieces steps
-pieces (Synced file ∷ steps) = pieces steps

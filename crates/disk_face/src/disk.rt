@@ -1,11 +1,12 @@
-// A database's three files.
-ghost use Rattle.std.specs.Prelude.{◌≡◌, ℕ, ◌≤◌, List, Bool, true, false, Option, length, is_ok, IfOk, OnOk, OnErr, ◌||◌};
-ghost use Rattle.disk_face.specs.Faults.{Rose};
-ghost use Rattle.disk_face.specs.Steps.{History, after};
+// A database's three files, and the calls on a disk that has them.
+ghost use Rattle.std.specs.Prelude.{◌≡◌, ◌≤◌, true, false, length, is_ok, IfOk, OnOk, OnErr};
+ghost use Rattle.disk_face.specs.Faults.{Counts};
+ghost use Rattle.disk_face.specs.Stays.{OnlyNames, OnlyReads, OnlyWrites};
+ghost use Rattle.disk_face.specs.Steps.{after};
 ghost use Rattle.disk_face.specs.Told.{IsNamed, IsSize, IsInside, IsRead, IsAnswer, Refuses};
 ghost use Rattle.disk_face.specs.declared.step.Step.TheVariants.{Wrote, Synced};
 
-use crate::Failed;
+use crate::{DiskTells, Failed};
 
 /// One of the three files of a database.
 #[derive(Clone, Copy, Debug, PartialEq, Eq)]
@@ -20,122 +21,60 @@ pub enum File {
 
 /// The disk with a database's three files. Lengths and places are in bytes.
 ///
-/// A disk that tells its bytes tells what the files held at first and its steps since. What reads give now, and what a
-/// crash may leave now or might have left earlier, are definitions over these. Of a disk that doesn't tell them, a
-/// contract knows only when a call has failed.
-///
-/// A call answers [`Failed`] only where the count of faults rose in it.
-pub trait Disk {
-    /// What the files held at first, and the steps since, where the disk tells them.
-    ghost told: { Self → Option History };
-
-    /// Whether the files have been named.
-    ghost attached: { Self → Bool };
-
-    /// The path by which the files were named, where the disk tells it.
-    ghost named: { Self → Option (List ℕ) };
-
-    /// What `journal` answers, where the disk tells it.
-    ghost journal_answer: { Self → Option Bool };
-
-    /// How often the disk has failed. The count stays once it is 2^64-1.
-    ghost faults: { Self → ℕ };
-
-    /// The names of the references that the disk holds.
-    ghost loans: { Self → List ℕ };
-
+/// A call answers [`Failed`] exactly where it counts a fault: one that answers well leaves the count as it was.
+pub trait Disk: DiskTells {
     /// Names the three files: the path, the path with `-wal`, and the path with `-wal2`. A file that isn't there is empty.
     /// After `Failed` the files are still to be named.
     fn attach(&mut self, path: &[u8]) -> Result<(), Failed>
-        requires { attached self.old ≡ false }
-        ensures attached { attached self.new ≡ is_ok result }
-        ensures named { OnOk result (IsNamed (named self.new) path.now) }
-        ensures unnamed { OnErr result (named self.new ≡ named self.old) }
-        ensures cause { OnErr result (Rose (faults self.old) (faults self.new)) }
-        ensures faults { faults self.old ≤ faults self.new }
-        ensures loans { loans self.new ≡ loans self.old }
-        ensures journal_answer { journal_answer self.new ≡ journal_answer self.old }
-        ensures told { told self.new ≡ told self.old };
+        requires { Self.attached self.old ≡ false }
+        ensures attached { Self.attached self.new ≡ is_ok result }
+        ensures named { OnOk result (IsNamed (Self.named self.new) path.now) }
+        ensures unnamed { OnErr result (Self.named self.new ≡ Self.named self.old) }
+        ensures stays { OnlyNames Self.DiskTells self.old self.new }
+        ensures faults { Counts (is_ok result) (Self.faults self.old) (Self.faults self.new) };
 
     /// Says whether the path with `-journal` names a file that isn't empty and whose first byte isn't 0.
     fn journal(&mut self) -> Result<bool, Failed>
-        requires { attached self.old ≡ true }
-        ensures answer { IfOk result (λ hot. IsAnswer (journal_answer self.old) hot) }
-        ensures cause { OnErr result (Rose (faults self.old) (faults self.new)) }
-        ensures faults { faults self.old ≤ faults self.new }
-        ensures loans { loans self.new ≡ loans self.old }
-        ensures journal_answer { journal_answer self.new ≡ journal_answer self.old }
-        ensures attached { attached self.new ≡ attached self.old }
-        ensures named { named self.new ≡ named self.old }
-        ensures told { told self.new ≡ told self.old };
+        requires { Self.attached self.old ≡ true }
+        ensures answer { IfOk result (λ hot. IsAnswer (Self.journal_answer self.old) hot) }
+        ensures stays { OnlyReads Self.DiskTells self.old self.new }
+        ensures faults { Counts (is_ok result) (Self.faults self.old) (Self.faults self.new) };
 
     /// The file's length.
     fn size(&mut self, file: File) -> Result<u64, Failed>
-        requires { attached self.old ≡ true }
-        ensures size { IfOk result (λ size. IsSize (told self.old) file size) }
-        ensures cause { OnErr result (Rose (faults self.old) (faults self.new)) }
-        ensures faults { faults self.old ≤ faults self.new }
-        ensures loans { loans self.new ≡ loans self.old }
-        ensures journal_answer { journal_answer self.new ≡ journal_answer self.old }
-        ensures attached { attached self.new ≡ attached self.old }
-        ensures named { named self.new ≡ named self.old }
-        ensures told { told self.new ≡ told self.old };
+        requires { Self.attached self.old ≡ true }
+        ensures size { IfOk result (λ size. IsSize (Self.told self.old) file size) }
+        ensures stays { OnlyReads Self.DiskTells self.old self.new }
+        ensures faults { Counts (is_ok result) (Self.faults self.old) (Self.faults self.new) };
 
     /// Fills the whole buffer with the file's bytes from `at` on. After `Failed` the buffer has any bytes.
     fn read_at(&mut self, file: File, at: u64, buf: &mut [u8]) -> Result<(), Failed>
-        requires attached { attached self.old ≡ true }
-        requires inside { IsInside (told self.old) file at (length buf.old) }
-        ensures bytes { OnOk result (IsRead (told self.old) file at buf.new) }
-        ensures cause { OnErr result (Rose (faults self.old) (faults self.new)) }
-        ensures faults { faults self.old ≤ faults self.new }
-        ensures loans { loans self.new ≡ loans self.old }
-        ensures journal_answer { journal_answer self.new ≡ journal_answer self.old }
-        ensures attached { attached self.new ≡ attached self.old }
-        ensures named { named self.new ≡ named self.old }
-        ensures told { told self.new ≡ told self.old };
+        requires attached { Self.attached self.old ≡ true }
+        requires inside { IsInside (Self.told self.old) file at (length buf.old) }
+        ensures bytes { OnOk result (IsRead (Self.told self.old) file at buf.new) }
+        ensures stays { OnlyReads Self.DiskTells self.old self.new }
+        ensures faults { Counts (is_ok result) (Self.faults self.old) (Self.faults self.new) };
 
     /// Writes the piece at `at`, which may make the file longer. After `Failed` the range has any bytes, and the file is as
     /// long as before or ends inside the range.
     fn write_at(&mut self, file: File, at: u64, piece: &[u8]) -> Result<(), Failed>
-        requires attached { attached self.old ≡ true }
-        requires start { IsInside (told self.old) file at 0 }
-        ensures written { OnOk result (told self.new ≡ after (Wrote (record { file = file; at = at; bytes = piece.now })) (told self.old)) }
-        ensures refused { OnErr result (Refuses (record { file = file; at = at; bytes = piece.now }) (told self.old) (told self.new)) }
-        ensures cause { OnErr result (Rose (faults self.old) (faults self.new)) }
-        ensures faults { faults self.old ≤ faults self.new }
-        ensures loans { loans self.new ≡ loans self.old }
-        ensures journal_answer { journal_answer self.new ≡ journal_answer self.old }
-        ensures attached { attached self.new ≡ attached self.old }
-        ensures named { named self.new ≡ named self.old };
+        requires attached { Self.attached self.old ≡ true }
+        requires start { IsInside (Self.told self.old) file at 0 }
+        ensures written { OnOk result (Self.told self.new ≡ after (Wrote (record { file = file; at = at; bytes = piece.now })) (Self.told self.old)) }
+        ensures refused { OnErr result (Refuses (record { file = file; at = at; bytes = piece.now }) (Self.told self.old) (Self.told self.new)) }
+        ensures stays { OnlyWrites Self.DiskTells self.old self.new }
+        ensures faults { Counts (is_ok result) (Self.faults self.old) (Self.faults self.new) };
 
     /// Has what was written of the file reach the medium. After `Failed` it may not have.
     fn sync(&mut self, file: File) -> Result<(), Failed>
-        requires { attached self.old ≡ true }
-        ensures synced { OnOk result (told self.new ≡ after (Synced file) (told self.old)) }
-        ensures unsynced { OnErr result (told self.new ≡ told self.old) }
-        ensures cause { OnErr result (Rose (faults self.old) (faults self.new)) }
-        ensures faults { faults self.old ≤ faults self.new }
-        ensures loans { loans self.new ≡ loans self.old }
-        ensures journal_answer { journal_answer self.new ≡ journal_answer self.old }
-        ensures attached { attached self.new ≡ attached self.old }
-        ensures named { named self.new ≡ named self.old };
+        requires { Self.attached self.old ≡ true }
+        ensures synced { OnOk result (Self.told self.new ≡ after (Synced file) (Self.told self.old)) }
+        ensures unsynced { OnErr result (Self.told self.new ≡ Self.told self.old) }
+        ensures stays { OnlyWrites Self.DiskTells self.old self.new }
+        ensures faults { Counts (is_ok result) (Self.faults self.old) (Self.faults self.new) };
 }
 
 impl<D: Disk> Disk for &mut D {
-    ghost told = { λ disk. D.told disk.now };
-
-    ghost attached = { λ disk. D.attached disk.now };
-
-    ghost named = { λ disk. D.named disk.now };
-
-    ghost journal_answer = { λ disk. D.journal_answer disk.now };
-
-    ghost faults = { λ disk. D.faults disk.now };
-
-    ghost use Rattle.std.specs.Prelude.{◌∷◌};
-
-    ghost loans = { λ disk. disk.ghost_name ∷ D.loans disk.now };
-
     fn attach(&mut self, path: &[u8]) -> Result<(), Failed> {
         (**self).attach(path)
     }

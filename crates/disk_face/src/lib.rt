@@ -1,7 +1,8 @@
 //! What lies outside the program, as traits: a disk of three files, a source of input, a sink for output, and random words.
 //!
 //! Each trait says by ghost members what a value of it means, and its clauses say how a call changes that.
-//! Disks, sources and sinks keep a count of faults that never falls, and a call answers [`Failed`] only where the count rose.
+//! Disks, sources and sinks keep a count of faults that never falls. It rises in each call that answers [`Failed`] and in no
+//! other, but for a write of a sink that takes nothing.
 #![tactic(auto)]
 
 mod disk;
@@ -9,6 +10,7 @@ mod random;
 mod sink;
 mod source;
 mod step;
+mod tells;
 mod text;
 
 pub use disk::{Disk, File};
@@ -16,6 +18,7 @@ pub use random::Salts;
 pub use sink::Sink;
 pub use source::Source;
 pub use step::{Piece, Step};
+pub use tells::DiskTells;
 pub use text::{Bytes, Txt, Word};
 
 /// A call on something outside the program failed. Its count of faults rose in that call.

@@ -1,7 +1,7 @@
 // Where replies go.
 ghost use Rattle.std.specs.Prelude.{◌≡◌, ℕ, ◌≤◌, List, Option, length, take, IfOk, OnErr};
-ghost use Rattle.disk_face.specs.Faults.{Rose};
-ghost use Rattle.disk_face.specs.Sink.{Puts, RefusesAll};
+ghost use Rattle.disk_face.specs.Faults.{Counts};
+ghost use Rattle.disk_face.specs.Sink.{Puts, goes_well};
 
 use crate::Failed;
 
@@ -21,10 +21,8 @@ pub trait Sink {
     fn put(&mut self, piece: &[u8]) -> Result<usize, Failed>
         ensures within { IfOk result (λ count. count ≤ length piece.now) }
         ensures written { IfOk result (λ count. Puts (written self.old) (take count piece.now) (written self.new)) }
-        ensures nothing { IfOk result (λ count. RefusesAll count (length piece.now) (faults self.old) (faults self.new)) }
         ensures refused { OnErr result (written self.new ≡ written self.old) }
-        ensures cause { OnErr result (Rose (faults self.old) (faults self.new)) }
-        ensures faults { faults self.old ≤ faults self.new }
+        ensures faults { Counts (goes_well (length piece.now) result) (faults self.old) (faults self.new) }
         ensures loans { loans self.new ≡ loans self.old };
 }
 

@@ -1,6 +1,6 @@
 // Where a script comes from.
-ghost use Rattle.std.specs.Prelude.{◌≡◌, ℕ, ◌≤◌, List, Option, length, take, IfOk, OnErr};
-ghost use Rattle.disk_face.specs.Faults.{Rose};
+ghost use Rattle.std.specs.Prelude.{◌≡◌, ℕ, ◌≤◌, List, Option, length, take, is_ok, IfOk, OnErr};
+ghost use Rattle.disk_face.specs.Faults.{Counts};
 ghost use Rattle.disk_face.specs.Source.{Takes};
 
 use crate::Failed;
@@ -22,8 +22,7 @@ pub trait Source {
         ensures within { IfOk result (λ count. count ≤ length buf.old) }
         ensures taken { IfOk result (λ count. Takes (left self.old) (length buf.old) (take count buf.new) (left self.new)) }
         ensures refused { OnErr result (left self.new ≡ left self.old) }
-        ensures cause { OnErr result (Rose (faults self.old) (faults self.new)) }
-        ensures faults { faults self.old ≤ faults self.new }
+        ensures faults { Counts (is_ok result) (faults self.old) (faults self.new) }
         ensures loans { loans self.new ≡ loans self.old };
 }
 

@@ -1,5 +1,5 @@
 -- What a crash of a disk in memory leaves is what a crash may leave.
-use Rattle.std.proofs.Common.{ℕ, [], List, length}
+use Rattle.std.proofs.Common.{ℕ, [], List, length, arith}
 use Rattle.disk_face.specs.declared.disk.File.{File}
 use Rattle.disk_face.specs.declared.disk.File.TheVariants.{Main, Log1, Log2}
 use Rattle.disk_face.specs.Files.{content}
@@ -12,7 +12,8 @@ use Rattle.std.proofs.Common.{◌∙◌}
 
 file_allowed : (told : History) (file : File) (pick : List ℕ) → IsFileImage (unsure [] told.steps) file (content (reads told) file) (picked (marks_of told file) (content (reads told) file) pick)
 file_allowed told file pick = record {
-  same_length = length-picked (marks_of told file) (content (reads told) file) pick;
+  no_longer = omega (arith, length-picked (marks_of told file) (content (reads told) file) pick);
+  reaches = λ place inside sure. omega (arith, length-picked (marks_of told file) (content (reads told) file) pick);
   sure = λ place inside sure. picked_stands (marks_of told file) (content (reads told) file) pick place
       (places_at (unsure [] told.steps) file (length (content (reads told) file)) place inside ∙ sure_place (unsure [] told.steps) file place sure);
 }

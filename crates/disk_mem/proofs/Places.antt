@@ -7,28 +7,12 @@ use Rattle.std.proofs.lemmas.List.Elements.{All-head, All-tail}
 use Rattle.std.proofs.lemmas.Bool.{false_from_ne_true, false≢true, ltb-true, leb-true, lt-ltb, le-ltb, le-leb, lt-leb, cases_lt}
 use Rattle.std.proofs.Math.ListN.{get_or}
 use Rattle.disk_face.specs.declared.disk.File.{File}
-use Rattle.disk_face.specs.declared.disk.File.TheVariants.{Main, Log1, Log2}
 use Rattle.disk_face.specs.declared.step.Piece.{Piece}
 use Rattle.disk_face.specs.declared.step.Step.{Step}
 use Rattle.disk_face.specs.declared.step.Step.TheVariants.{Synced}
-use Rattle.disk_face.specs.Image.{Range, range_of, same_file, of_others, unsure, IsSure}
+use Rattle.disk_face.specs.Image.{Range, range_of, same_file, of_others, unsure, IsOutside, IsSure}
+use Rattle.disk_face.proofs.Images.{same_file-true}
 use Rattle.disk_mem.specs.Crash.{has_place, places}
-
-pub same_file-refl : (file : File) → same_file file file ≡ true
-same_file-refl Main = refl
-same_file-refl Log1 = refl
-same_file-refl Log2 = refl
-
-pub same_file-true : (one other : File) → same_file one other ≡ true → one ≡ other
-same_file-true Main Main h = refl
-same_file-true Main Log1 h = cc
-same_file-true Main Log2 h = cc
-same_file-true Log1 Main h = cc
-same_file-true Log1 Log1 h = refl
-same_file-true Log1 Log2 h = cc
-same_file-true Log2 Main h = cc
-same_file-true Log2 Log1 h = cc
-same_file-true Log2 Log2 h = refl
 
 -- a list of marks is that of some ranges if it is as long and each mark is right
 pub places_by_index : (ranges : List Range) (file : File) (count : ℕ) (marks : List Bool) → length marks ≡ count
@@ -120,8 +104,8 @@ outside file place range far = false_from_ne_true (has_place file place range)
 pub sure_place : (ranges : List Range) (file : File) (place : ℕ) → IsSure ranges file place → list_any (has_place file place) ranges ≡ false
 sure_place [] file place sure = refl
 sure_place (range ∷ ranges) file place sure =
-    ap (λ b. b || list_any (has_place file place) ranges) (outside file place range (All-head (λ range. range.file ≡ file → range.from ≤ place → place < range.from + range.count → ⊥) range ranges sure))
-    ∙ sure_place ranges file place (All-tail (λ range. range.file ≡ file → range.from ≤ place → place < range.from + range.count → ⊥) range ranges sure)
+    ap (λ b. b || list_any (has_place file place) ranges) (outside file place range (All-head (IsOutside file place) range ranges sure))
+    ∙ sure_place ranges file place (All-tail (IsOutside file place) range ranges sure)
 
 -- a mark of a piece's own file
 pub range_marks : (piece : Piece) (file : File) (place : ℕ) (before after : Bool) → same_file piece.file file ≡ true

@@ -4,6 +4,7 @@ pub mod Words
 pub mod Plan
 pub mod File
 pub mod Changed
+pub mod Note
 pub mod Store
 pub mod Disk
 pub mod Crash

@@ -5,6 +5,7 @@ mod crash;
 mod disk;
 mod file;
 mod fuse;
+mod note;
 mod plan;
 mod sink;
 mod source;
@@ -12,7 +13,7 @@ mod store;
 mod words;
 
 pub use disk::MemDisk;
-pub use plan::{Call, Fail};
+pub use plan::{Call, Fail, Made};
 pub use sink::MemSink;
 pub use source::MemSource;
 pub use words::FixedSalts;

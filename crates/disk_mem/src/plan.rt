@@ -33,6 +33,14 @@ pub struct Fail {
     pub nth: u64,
 }
 
+/// A call that was made.
+#[derive(Clone, Copy, Debug, PartialEq, Eq)]
+pub struct Made {
+    pub file: File,
+    pub call: Call,
+    pub failed: bool,
+}
+
 /// The calls of a disk that are to fail, and how many there have been.
 #[derive(Debug, Drop)]
 pub(crate) struct Plan {

@@ -1,6 +1,7 @@
 // A sink that keeps what is written.
 ghost use Rattle.std.specs.Prelude.{◌≡◌, ◌≤◌, ◌<◌, ◌++◌, [], Some, length, take, min, IsErr, IfOk, OnOk, OnErr};
-ghost use Rattle.disk_face.specs.Faults.{Rose, one_more};
+ghost use Rattle.disk_face.specs.Faults.{Counts, one_more};
+ghost use Rattle.disk_face.specs.Sink.{goes_well};
 ghost use Rattle.disk_mem.specs.Fuse.{burnt};
 
 use crate::fuse;
@@ -73,8 +74,7 @@ impl Sink for MemSink {
         ensures plan { self.new.fails_in ≡ burnt self.old.fails_in }
         ensures counted { OnErr result (self.new.faults ≡ one_more self.old.faults) }
         ensures uncounted { OnOk result (self.new.faults ≡ self.old.faults) }
-        ensures cause { OnErr result (Rose self.old.faults self.new.faults) }
-        ensures faults { self.old.faults ≤ self.new.faults }
+        ensures faults { Counts (goes_well (length piece.now) result) self.old.faults self.new.faults }
     {
         if fuse::burn(&mut self.fails_in) {
             fuse::count_fault(&mut self.faults);

@@ -1,6 +1,6 @@
 // A source of bytes that are there from the start.
-ghost use Rattle.std.specs.Prelude.{◌≡◌, ◌≤◌, ◌<◌, ◌++◌, ◌↔◌, [], Some, length, take, drop, min, IsErr, IfOk, OnOk, OnErr};
-ghost use Rattle.disk_face.specs.Faults.{Rose, one_more};
+ghost use Rattle.std.specs.Prelude.{◌≡◌, ◌≤◌, ◌<◌, ◌++◌, ◌↔◌, [], Some, length, take, drop, min, is_ok, IsErr, IfOk, OnErr};
+ghost use Rattle.disk_face.specs.Faults.{Counts, one_more};
 ghost use Rattle.disk_face.specs.Source.{Takes};
 ghost use Rattle.disk_mem.specs.Fuse.{burnt};
 
@@ -65,9 +65,7 @@ impl Source for MemSource {
         ensures most { self.new.most ≡ self.old.most }
         ensures plan { self.new.fails_in ≡ burnt self.old.fails_in }
         ensures counted { OnErr result (self.new.faults ≡ one_more self.old.faults) }
-        ensures uncounted { OnOk result (self.new.faults ≡ self.old.faults) }
-        ensures cause { OnErr result (Rose self.old.faults self.new.faults) }
-        ensures faults { self.old.faults ≤ self.new.faults }
+        ensures faults { Counts (is_ok result) self.old.faults self.new.faults }
     {
         if fuse::burn(&mut self.fails_in) {
             fuse::count_fault(&mut self.faults);

@@ -1,6 +1,6 @@
 -- What a scan of a log's frames knows after some of them, how one more frame changes it, and what it has found at its end.
-use Rattle.std.proofs.Common.{◌≡◌, ◌≢◌, ℕ, ◌+◌, ◌≤◌, ◌<◌, List, [], ◌∷◌, ◌++◌, length, map, take, drop, refl, sym, ◌∙◌, ap, arith, length-append, append-nil, inl, inr}
-use Rattle.std.specs.List.{concat, fold}
+use Rattle.std.proofs.Common.{◌≡◌, ◌≢◌, ℕ, ◌+◌, ◌≤◌, ◌<◌, List, [], ◌∷◌, ◌++◌, length, take, drop, refl, sym, ◌∙◌, ap, arith, length-append, append-nil, inl, inr}
+use Rattle.std.specs.List.{concat}
 use Rattle.std.proofs.lemmas.List.{take-append-le, take_all, drop-drop}
 use Rattle.std.proofs.lemmas.List.Folds.{concat-append}
 use Rattle.std.proofs.lemmas.Grind.{fold-append}
@@ -8,7 +8,7 @@ use Rattle.std.proofs.Math.Seq.{take-add}
 use Rattle.std.proofs.lemmas.Bool.{cases_lt}
 use Rattle.log_spec.specs.Checksum.{Sum}
 use Rattle.log_spec.specs.LogHeader.{LogFields, log_fields, IsOurs, header_size}
-use Rattle.log_spec.specs.Accept.{Frame, IsValidFrame, AreValidFrames, AreThere, Accepted, sum_after, sum_of_frames, last_size, page_numbers, page_number, commit_size}
+use Rattle.log_spec.specs.Accept.{Frame, IsValidFrame, AreValidFrames, AreThere, Accepted, sum_after, sum_of_frames, last_size, commit_size}
 use Rattle.log_spec.proofs.AcceptLaws.{valid_push, accepted_from_scan}
 
 -- Behind these frames, which are valid, the scan is at this place with this checksum. It keeps so many of them, and knows the
@@ -37,7 +37,8 @@ scanned_none bytes header = record {
   others = λ n more less. absurd (omega arith);
 }
 
-there_push : (bytes : List ℕ) (frames : List Frame) (frame : Frame) → AreThere bytes frames
+-- one frame more at the end of some that are there
+pub there_push : (bytes : List ℕ) (frames : List Frame) (frame : Frame) → AreThere bytes frames
     → take (length frame) (drop (header_size + length (concat frames)) bytes) ≡ frame → AreThere bytes (frames ++ frame ∷ [])
 there_push bytes frames frame there next =
     let row = drop header_size bytes in

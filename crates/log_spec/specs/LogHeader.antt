@@ -12,6 +12,10 @@ header_size = 32
 abbrev pub summed_size : ℕ
 summed_size = 24
 
+-- the bytes of the header at the front of a log
+abbrev pub header_bytes : List ℕ → List ℕ
+header_bytes bytes = take header_size bytes
+
 -- the first number of a log whose words are read with the most significant byte first, and of one with the least first
 abbrev pub big_magic : ℕ
 big_magic = 0x377f_0683

@@ -1,0 +1,4 @@
+pub mod Moments
+pub mod Since
+pub mod Rebased
+pub mod Passing

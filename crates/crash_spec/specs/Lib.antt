@@ -1,0 +1,9 @@
+pub mod Marks
+pub mod Opening
+pub mod Known
+pub mod Moments
+pub mod Passes
+pub mod Elsewhere
+pub mod Logs
+pub mod Recovered
+pub mod Store
