@@ -5,7 +5,7 @@ use Rattle.std.proofs.lemmas.List.{take-append-drop, drop_at, length-take-le, le
 use Rattle.std.proofs.lemmas.List.Folds.{list_any-append}
 use Rattle.std.proofs.lemmas.Bool.{cases_order, ltb-true, ltb-false, or_parts}
 use Rattle.engine_spec.specs.declared.commits.Mode.{Mode}
-use Rattle.engine_spec.specs.History.{counts, is_written, IsConflict, NoConflict, first_writer, with_page, conflict}
+use Rattle.engine_spec.specs.History.{counts, is_written, IsConflict, NoConflict, first_writer, or_others, conflict}
 use Rattle.engine_spec.specs.declared.commits.Commit.{Commit}
 
 -- an element of a longer list is its first or one of the others
@@ -104,7 +104,7 @@ none_more writer p ps q bound first others c l =
     ]
 
 answers_more : (writer : ℕ → Option ℕ) (p : ℕ) (ps : List ℕ) (o : Option ℕ) → writer p ≡ o → (r : Option (ℕ × ℕ))
-    → Answers writer ps r → Answers writer (p ∷ ps) (with_page p o r)
+    → Answers writer ps r → Answers writer (p ∷ ps) (or_others p o r)
 unfolding Answers
 answers_more writer p ps None is None a =
     λ q c. elim (contains_cases p q ps c) [ inl e ↦ cc | inr there ↦ a q there ]

@@ -1,19 +1,19 @@
 -- What a map holds once pages were put over it, and on which pages it then agrees with what it was.
-use Rattle.std.proofs.Common.{◌≡◌, ℕ, ◌+◌, ◌-◌, ◌≤◌, Bool, true, false, ◌||◌, not, cond, eqb, List, [], ◌∷◌, ◌++◌, length, set, take, drop, map, Some, None, zero, suc, refl, sym, subst, ap, ◌∙◌, inl, inr, arith, rules, eq-eqb}
+use Rattle.std.proofs.Common.{◌≡◌, ℕ, ◌+◌, ◌-◌, ◌≤◌, Bool, true, false, ◌||◌, not, cond, eqb, List, [], ◌∷◌, ◌++◌, length, set, take, drop, map, Option, Some, None, zero, suc, refl, sym, subst, ap, ◌∙◌, inl, inr, arith, rules, eq-eqb}
 use Rattle.std.specs.Prelude.{Contains, All, ◌⊎◌, unwrap_or, slice_index, filter}
 use Rattle.std.specs.List.{list_any}
-use Rattle.std.proofs.lemmas.List.{length-set, length-append, length-take, length-drop, length-map, get_or-map, get_or-set_same, get_or-set_other, get_or_append_left, get_or-take, append-nil, drop_at, append_assoc}
-use Rattle.std.proofs.lemmas.List.Elements.{All-head, All-tail, All-set, All-contains, All-from_recursion}
+use Rattle.std.proofs.lemmas.List.{length-set, length-append, length-take, length-drop, length-map, get_or-map, get_or-set_same, get_or-set_other, get_or_append_left, get_or-take, append-nil, drop_at, drop-drop, append_assoc}
+use Rattle.std.proofs.lemmas.List.Elements.{All-head, All-tail, All-cons, All-set, All-contains, All-from_recursion}
 use Rattle.std.proofs.lemmas.Bool.{cases_eq, ne_eqb, eqb-true, not-false, or_parts, and_cases, both_ways}
 use Rattle.page_spec.specs.PageMap.{PageMap, page_at, page_size_of, page_sizes, reserved_of, compared, Agree}
 use Rattle.engine_spec.specs.declared.commits.Mode.{Mode}
 use Rattle.engine_spec.specs.declared.commits.Mode.TheVariants.{Plain, Concurrent}
 use Rattle.engine_spec.specs.declared.commits.PageImage.{PageImage}
 use Rattle.engine_spec.specs.PageSet.{AreDifferent}
-use Rattle.engine_spec.specs.Change.{image_of}
-use Rattle.engine_spec.specs.Change.{Change, laid_first, laid_page, put_page, put_pages, laid}
+use Rattle.engine_spec.specs.Change.{Change, image_of, between, laid_first, laid_page, put_page, put_pages, placed, next_counter, u32_bytes, stamped, with_header, laid}
 use Rattle.engine_spec.specs.History.{counts}
-use Rattle.engine_spec.specs.Seen.{Submitted, commit_of, written}
+use Rattle.engine_spec.specs.Written.{Submitted, commit_of, Writes, numbers_from, pages_with}
+use Rattle.engine_spec.proofs.Conflicts.{contains_cases, contains_more}
 
 -- each legal page size is at least 512 bytes
 pub legal_size : (s : ℕ) → Contains page_sizes s → 512 ≤ s
@@ -239,24 +239,88 @@ pub record IsWhole (n s : ℕ) (change : Change) : Type 0 where
   pub whole : All (λ image. length image.bytes ≡ s) change.changed
   pub fresh : change.fresh ≡ []
 
--- where no page is made, laying is putting the changed ones
-pub laid-put : (pages : PageMap) (change : Change) → change.fresh ≡ []
-    → laid pages change ≡ put_pages change.mode change.tail pages change.changed
-laid-put pages change none =
+-- where no page is made, placing is putting the changed ones
+placed-put : (pages : PageMap) (change : Change) → change.fresh ≡ []
+    → placed pages change ≡ put_pages change.mode change.tail pages change.changed
+placed-put pages change none =
     ap (λ (fresh : List PageImage). put_pages change.mode change.tail pages change.changed ++ map (λ image. image.bytes) fresh) none
     ∙ append-nil (put_pages change.mode change.tail pages change.changed)
+
+-- page 1 with new header fields: its parts
+six_lengths : (a b c d e f : List ℕ) → length (a ++ (b ++ (c ++ (d ++ (e ++ f)))))
+    ≡ length a + (length b + (length c + (length d + (length e + length f))))
+six_lengths a b c d e f = simp length-append
+
+-- it keeps its length
+pub stamped-length : (size : ℕ) (first : List ℕ) → 100 ≤ length first → length (stamped size first) ≡ length first
+stamped-length size first long =
+    six_lengths (take 24 first) (u32_bytes (next_counter first)) (u32_bytes size) (between 32 92 first)
+    (u32_bytes (next_counter first)) (drop 96 first)
+    ∙ simp (length-take, length-drop) (omega arith)
+
+-- the byte that names the reserved bytes stays
+pub stamped-reserved : (size : ℕ) (first : List ℕ) → 100 ≤ length first → slice_index (stamped size first) 20 ≡ slice_index first 20
+stamped-reserved size first long =
+    get_or_append_left (take 24 first)
+    (u32_bytes (next_counter first) ++ (u32_bytes size ++ (between 32 92 first ++ (u32_bytes (next_counter first) ++ drop 96 first))))
+    0 20 (simp length-take (omega arith))
+    ∙ get_or-take 24 first 20 0 (omega arith)
+
+-- all from byte 100 on stays
+pub stamped-tail : (size : ℕ) (first : List ℕ) → 100 ≤ length first → drop 100 (stamped size first) ≡ drop 100 first
+stamped-tail size first long =
+    let front = take 24 first ++ (u32_bytes (next_counter first) ++ (u32_bytes size ++ (between 32 92 first ++ u32_bytes (next_counter first)))) in
+    let count : length front ≡ 96 = simp (length-append, length-take, length-drop) (omega arith) in
+    let joined : front ++ drop 96 first ≡ stamped size first = simp append_assoc in
+    ap (drop 100) (sym joined)
+    ∙ sym (drop-drop 4 96 (front ++ drop 96 first))
+    ∙ ap (drop 4) (drop_at front (drop 96 first) 96 count)
+    ∙ drop-drop 4 96 first
+
+-- with new header fields a map has as many pages
+pub with_header-length : (pages : PageMap) → length (with_header pages) ≡ length pages
+with_header-length [] = refl
+with_header-length (first ∷ pages) = refl
+
+-- its page 1 has them
+with_header-first : (pages : PageMap) → 1 ≤ length pages → page_at (with_header pages) 1 ≡ stamped (length pages) (page_at pages 1)
+with_header-first [] some = absurd (omega arith)
+with_header-first (first ∷ pages) some = refl
+
+-- and the others are as they were
+with_header-other : (pages : PageMap) (q : ℕ) → (1 ≡ q → ⊥) → page_at (with_header pages) q ≡ page_at pages q
+with_header-other [] q apart = refl
+with_header-other (first ∷ pages) zero apart = refl
+with_header-other (first ∷ pages) (suc zero) apart = absurd (apart refl)
+with_header-other (first ∷ pages) (suc (suc k)) apart = refl
+
+with_header-whole : (pages : PageMap) (s : ℕ) → 100 ≤ s → All (λ page. length page ≡ s) pages
+    → All (λ page. length page ≡ s) (with_header pages)
+with_header-whole [] s size each = each
+with_header-whole (first ∷ pages) s size each =
+    let one : length first ≡ s = All-head (λ (page : List ℕ). length page ≡ s) first pages each in
+    All-cons (λ (page : List ℕ). length page ≡ s) (stamped (length (first ∷ pages)) first) pages
+    (stamped-length (length (first ∷ pages)) first (omega arith) ∙ one)
+    (All-tail (λ (page : List ℕ). length page ≡ s) first pages each)
+
+-- where no page is made, laying is putting the changed ones and setting page 1's header fields
+pub laid-put : (pages : PageMap) (change : Change) → change.fresh ≡ []
+    → laid pages change ≡ with_header (put_pages change.mode change.tail pages change.changed)
+laid-put pages change none = ap with_header (placed-put pages change none)
 
 -- a map keeps its count of pages
 pub laid-length : (pages : PageMap) (change : Change) → change.fresh ≡ [] → length (laid pages change) ≡ length pages
 laid-length pages change none =
-    ap length (laid-put pages change none) ∙ put_pages-length change.mode change.tail pages change.changed
+    with_header-length (placed pages change)
+    ∙ ap length (placed-put pages change none) ∙ put_pages-length change.mode change.tail pages change.changed
 
 -- and its pages their size
 pub laid-whole : (pages : PageMap) (change : Change) (n s : ℕ) → 100 ≤ s → IsWhole n s change → n ≤ length pages
     → All (λ page. length page ≡ s) pages → All (λ page. length page ≡ s) (laid pages change)
 laid-whole pages change n s size whole within each =
-    subst (All (λ (page : List ℕ). length page ≡ s)) (sym (laid-put pages change whole.fresh))
-    (put_pages-whole change.mode change.tail pages change.changed n s size whole.in_range within whole.whole each)
+    with_header-whole (placed pages change) s size
+    (subst (All (λ (page : List ℕ). length page ≡ s)) (sym (placed-put pages change whole.fresh))
+    (put_pages-whole change.mode change.tail pages change.changed n s size whole.in_range within whole.whole each))
 
 -- the page size stays
 pub laid-page_size : (pages : PageMap) (change : Change) (n s : ℕ) → 100 ≤ s → IsWhole n s change → n ≤ length pages
@@ -266,72 +330,116 @@ laid-page_size pages change n s size whole within some each =
     (omega (arith, laid-length pages change whole.fresh))
     ∙ sym (page_at-length pages s 1 each (omega arith) some)
 
--- and the count of reserved bytes
+-- what depends on page 1 by what laying leaves of it stays
+laid_kept : {A : Type 0} (f : List ℕ → A) (pages : PageMap) (change : Change) (n s : ℕ) → 100 ≤ s → IsWhole n s change
+    → n ≤ length pages → 1 ≤ length pages → All (λ page. length page ≡ s) pages
+    → ((old new : List ℕ) → length old ≡ s → length new ≡ s → f (laid_first change.mode change.tail old new) ≡ f old)
+    → ((size : ℕ) (first : List ℕ) → 100 ≤ length first → f (stamped size first) ≡ f first)
+    → f (page_at (laid pages change) 1) ≡ f (page_at pages 1)
+laid_kept f pages change n s size whole within some each kept stamps =
+    let put = put_pages change.mode change.tail pages change.changed in
+    let count : length put ≡ length pages = put_pages-length change.mode change.tail pages change.changed in
+    let long : length (page_at put 1) ≡ s =
+    page_at-length put s 1 (put_pages-whole change.mode change.tail pages change.changed n s size whole.in_range within whole.whole each)
+    (omega arith) (omega arith) in
+    ap (λ (map : PageMap). f (page_at map 1)) (laid-put pages change whole.fresh)
+    ∙ ap f (with_header-first put (omega arith))
+    ∙ stamps (length put) (page_at put 1) (omega arith)
+    ∙ firsts_kept f change.mode change.tail n s size kept pages change.changed whole.in_range within some whole.whole each
+
+-- the count of reserved bytes stays
 pub laid-reserved : (pages : PageMap) (change : Change) (n s : ℕ) → 100 ≤ s → IsWhole n s change → n ≤ length pages
     → 1 ≤ length pages → All (λ page. length page ≡ s) pages → reserved_of (laid pages change) ≡ reserved_of pages
 laid-reserved pages change n s size whole within some each =
-    ap reserved_of (laid-put pages change whole.fresh)
-    ∙ firsts_kept (λ (bytes : List ℕ). slice_index bytes 20) change.mode change.tail n s size
-    (reserved_kept change.mode change.tail s size) pages change.changed whole.in_range within some whole.whole each
-
--- a page that isn't among the changed ones stays
-pub laid-other : (pages : PageMap) (change : Change) (n s q : ℕ) → IsWhole n s change → image_of change.changed q ≡ None
-    → page_at (laid pages change) q ≡ page_at pages q
-laid-other pages change n s q whole none =
-    ap (λ (map : PageMap). page_at map q) (laid-put pages change whole.fresh)
-    ∙ put_pages-other change.mode change.tail pages change.changed q
-    (λ k d within. (whole.in_range k d within).0) none
+    laid_kept (λ (bytes : List ℕ). slice_index bytes 20) pages change n s size whole within some each
+    (reserved_kept change.mode change.tail s size) stamped-reserved
 
 -- what counts of page 1 stays where the change leaves its bytes from 100 on
 pub laid-first : (pages : PageMap) (change : Change) (n s : ℕ) → 100 ≤ s → IsWhole n s change → n ≤ length pages
     → 1 ≤ length pages → All (λ page. length page ≡ s) pages → change.tail ≡ false
     → compared 1 (page_at (laid pages change) 1) ≡ compared 1 (page_at pages 1)
 laid-first pages change n s size whole within some each left =
-    ap (λ (map : PageMap). drop 100 (page_at map 1)) (laid-put pages change whole.fresh)
-    ∙ firsts_kept (drop 100) change.mode change.tail n s size
+    laid_kept (drop 100) pages change n s size whole within some each
     (subst (λ (tail : Bool). (old new : List ℕ) → length old ≡ s → length new ≡ s
     → drop 100 (laid_first change.mode tail old new) ≡ drop 100 old) (sym left) (tail_kept change.mode s size))
-    pages change.changed whole.in_range within some whole.whole each
+    stamped-tail
 
--- a page that isn't among those that a commit wrote is none of its images
-unwritten : (images : List PageImage) (q : ℕ) → (1 ≡ q → ⊥)
-    → list_any (λ p. eqb p q) (filter (λ page. not (eqb page 1)) (map (λ image. image.page) images)) ≡ false
-    → image_of images q ≡ None
-unwritten [] q apart none = refl
-unwritten (image ∷ images) q apart none =
-    let rest = filter (λ page. not (eqb page 1)) (map (λ (one : PageImage). one.page) images) in
-    elim (cases_eq image.page q) [
-      | inl same ↦
-          (let e : (eqb image.page q || list_any (λ p. eqb p q) rest) ≡ false =
-          rw (ne_eqb image.page 1 (λ is. apart (sym is ∙ same))) at none in
-          let f = (or_parts (eqb image.page q) (list_any (λ p. eqb p q) rest) e).0 in
-          absurd (both_ways (eqb image.page q) f (eq-eqb image.page q same)))
-      | inr differs ↦
-          rw (ne_eqb image.page q differs) (unwritten images q apart (rest_unwritten image.page q rest none))
-    ]
+-- a page other than page 1 that isn't among the changed ones stays
+pub laid-other : (pages : PageMap) (change : Change) (n s q : ℕ) → IsWhole n s change → (1 ≡ q → ⊥) → image_of change.changed q ≡ None
+    → page_at (laid pages change) q ≡ page_at pages q
+laid-other pages change n s q whole apart none =
+    ap (λ (map : PageMap). page_at map q) (laid-put pages change whole.fresh)
+    ∙ with_header-other (put_pages change.mode change.tail pages change.changed) q apart
+    ∙ put_pages-other change.mode change.tail pages change.changed q
+    (λ k d within. (whole.in_range k d within).0) none
+
+-- a page from 2 on is its image where there is one, else as it was; page 1 isn't among the changed ones
+pub laid-at : (pages : PageMap) (change : Change) (n q : ℕ) → change.fresh ≡ [] → AreDifferent (map (λ image. image.page) change.changed)
+    → All (λ image. (2 ≤ image.page) × (image.page ≤ n)) change.changed → n ≤ length pages → 2 ≤ q
+    → page_at (laid pages change) q ≡ unwrap_or (image_of change.changed q) (page_at pages q)
+laid-at pages change n q none different range within low =
+    ap (λ (map : PageMap). page_at map q) (laid-put pages change none)
+    ∙ with_header-other (put_pages change.mode change.tail pages change.changed) q (λ same. omega arith)
+    ∙ put_pages-at change.mode change.tail pages change.changed n q different range within
+
+-- a commit wrote page 1 and all changed pages
+abbrev pub CoversChange : Change → List ℕ → Type 0
+CoversChange change wrote = (page : ℕ) → Contains (1 ∷ map (λ image. image.page) change.changed) page → Contains wrote page
+
+-- an element of a list is one of any longer list
+pub contains_front : (xs ys : List ℕ) (q : ℕ) → Contains xs q → Contains (xs ++ ys) q
+contains_front [] ys q there = absurd (let low = there.1 in omega arith)
+contains_front (x ∷ xs) ys q there = elim (contains_cases x q xs there) [
+  | inl same ↦ (0, omega arith, same)
+  | inr later ↦ contains_more x q (xs ++ ys) (contains_front xs ys q later)
+]
+
+-- what a commit writes covers its change
+pub covers : (newest : Option PageMap) (size : ℕ) (change : Change) (pages : List ℕ) → Writes newest size change pages → CoversChange change pages
+covers newest size change pages writes page there =
+    (writes.same page).1
+    (contains_front (1 ∷ map (λ (image : PageImage). image.page) change.changed)
+    (numbers_from (size + 1) (length change.fresh) ++ writes.trunk_pages) page there)
+
+-- a list has what it contains
+pub any_there : (xs : List ℕ) (q : ℕ) → Contains xs q → list_any (λ p. eqb p q) xs ≡ true
+any_there [] q there = absurd (let low = there.1 in omega arith)
+any_there (x ∷ xs) q there = elim (contains_cases x q xs there) [
+  | inl same ↦ rw (eq-eqb x q same) refl
+  | inr later ↦ rw (any_there xs q later) (or_true (eqb x q))
+]
   where
-    by_test : (test : Bool) (page q : ℕ) (rest : List ℕ)
-        → list_any (λ p. eqb p q) (cond (not test) (page ∷ rest) rest) ≡ false → list_any (λ p. eqb p q) rest ≡ false
-    by_test true page q rest none = none
-    by_test false page q rest none = (or_parts (eqb page q) (list_any (λ p. eqb p q) rest) none).1
+    or_true : (test : Bool) → (test || true) ≡ true
+    or_true true = refl
+    or_true false = refl
 
-    rest_unwritten : (page q : ℕ) (rest : List ℕ)
-        → list_any (λ p. eqb p q) (cond (not (eqb page 1)) (page ∷ rest) rest) ≡ false → list_any (λ p. eqb p q) rest ≡ false
-    rest_unwritten page q rest none = by_test (eqb page 1) page q rest none
+-- a page that isn't among those that a commit wrote isn't page 1 and none of its images
+unwritten : (change : Change) (wrote : List ℕ) (q : ℕ) → CoversChange change wrote → list_any (λ p. eqb p q) wrote ≡ false
+    → (1 ≡ q → ⊥) × (image_of change.changed q ≡ None)
+unwritten change wrote q has none = (
+  λ same. absent (0, omega arith, same),
+  image_absent change.changed q
+      (λ k d within same. absent (
+        suc k,
+        omega (arith, length-map change.changed page_of),
+        get_or-map page_of change.changed k d q within ∙ same,
+      )),
+)
+  where
+    page_of : PageImage → ℕ
+    page_of image = image.page
 
-written_none : (change : Change) (q : ℕ) → list_any (λ p. eqb p q) (written change) ≡ false → image_of change.changed q ≡ None
-written_none change q none =
-    let parts = or_parts (eqb 1 q)
-    (list_any (λ p. eqb p q) (filter (λ page. not (eqb page 1)) (map (λ (image : PageImage). image.page) change.changed))) none in
-    unwritten change.changed q (λ same. both_ways (eqb 1 q) parts.0 (eq-eqb 1 q same)) parts.1
+    absent : Contains (1 ∷ map (λ image. image.page) change.changed) q → ⊥
+    absent there = both_ways (list_any (λ p. eqb p q) wrote) none (any_there wrote q (has q there))
 
--- a page that doesn't count as written is none of the images, or page 1 that was left from byte 100 on
-pub uncounted : (mode : Mode) (q : ℕ) (asked : Submitted) → counts mode q (commit_of asked) ≡ false
-    → (image_of asked.change.changed q ≡ None) ⊎ ((q ≡ 1) × (asked.change.tail ≡ false))
-uncounted Plain q asked left = inl (written_none asked.change q left)
-uncounted Concurrent q asked left =
-    elim (and_cases (list_any (λ p. eqb p q) (written asked.change)) (asked.change.tail || not (eqb q 1)) left) [
-      | inl none ↦ inl (written_none asked.change q none)
+-- a page that doesn't count as written is neither page 1 nor one of the images, or it is page 1 that was left from byte 100 on
+pub uncounted : (mode : Mode) (q : ℕ) (asked : Submitted) (wrote : List ℕ) → CoversChange asked.change wrote
+    → counts mode q (commit_of asked wrote) ≡ false
+    → ((1 ≡ q → ⊥) × (image_of asked.change.changed q ≡ None)) ⊎ ((q ≡ 1) × (asked.change.tail ≡ false))
+uncounted Plain q asked wrote has left = inl (unwritten asked.change wrote q has left)
+uncounted Concurrent q asked wrote has left =
+    elim (and_cases (list_any (λ p. eqb p q) wrote) (asked.change.tail || not (eqb q 1)) left) [
+      | inl none ↦ inl (unwritten asked.change wrote q has none)
       | inr first ↦
           (let parts = or_parts asked.change.tail (not (eqb q 1)) first in
           inr (eqb-true q 1 (not-false (eqb q 1) parts.1), parts.0))
@@ -362,24 +470,25 @@ agree_fewer before after numbers fewer there agree = record {
 }
 
 -- what counts of a page stays where the page doesn't count as written
-pub laid-compared : (pages : PageMap) (asked : Submitted) (mode : Mode) (n s q : ℕ) → 100 ≤ s → IsWhole n s asked.change
-    → n ≤ length pages → 1 ≤ length pages → All (λ page. length page ≡ s) pages → counts mode q (commit_of asked) ≡ false
-    → compared q (page_at pages q) ≡ compared q (page_at (laid pages asked.change) q)
-laid-compared pages asked mode n s q size whole within some each left =
-    elim (uncounted mode q asked left) [
-      | inl none ↦ ap (compared q) (sym (laid-other pages asked.change n s q whole none))
+pub laid-compared : (pages : PageMap) (asked : Submitted) (wrote : List ℕ) (mode : Mode) (n s q : ℕ) → 100 ≤ s → IsWhole n s asked.change
+    → n ≤ length pages → 1 ≤ length pages → All (λ page. length page ≡ s) pages → CoversChange asked.change wrote
+    → counts mode q (commit_of asked wrote) ≡ false → compared q (page_at pages q) ≡ compared q (page_at (laid pages asked.change) q)
+laid-compared pages asked wrote mode n s q size whole within some each has left =
+    elim (uncounted mode q asked wrote has left) [
+      | inl none ↦ ap (compared q) (sym (laid-other pages asked.change n s q whole none.0 none.1))
       | inr first ↦
           subst (λ (r : ℕ). compared r (page_at pages r) ≡ compared r (page_at (laid pages asked.change) r)) (sym first.0)
           (sym (laid-first pages asked.change n s size whole within some each first.1))
     ]
 
 -- a map agrees with what a commit makes of it on pages of which none counts as written
-pub agree_laid : (pages : PageMap) (asked : Submitted) (mode : Mode) (n s : ℕ) (numbers : List ℕ) → 100 ≤ s
+pub agree_laid : (pages : PageMap) (asked : Submitted) (wrote : List ℕ) (mode : Mode) (n s : ℕ) (numbers : List ℕ) → 100 ≤ s
     → IsWhole n s asked.change → n ≤ length pages → 1 ≤ length pages → All (λ page. length page ≡ s) pages
-    → ((q : ℕ) → Contains numbers q → counts mode q (commit_of asked) ≡ false) → Agree pages (laid pages asked.change) numbers
-agree_laid pages asked mode n s numbers size whole within some each left = record {
+    → CoversChange asked.change wrote
+    → ((q : ℕ) → Contains numbers q → counts mode q (commit_of asked wrote) ≡ false) → Agree pages (laid pages asked.change) numbers
+agree_laid pages asked wrote mode n s numbers size whole within some each has left = record {
   no_shorter = omega (arith, laid-length pages asked.change whole.fresh);
-  same = λ q there. laid-compared pages asked mode n s q size whole within some each (left q there);
+  same = λ q there. laid-compared pages asked wrote mode n s q size whole within some each has (left q there);
   page_size = sym (laid-page_size pages asked.change n s size whole within some each);
   reserved = sym (laid-reserved pages asked.change n s size whole within some each);
 }

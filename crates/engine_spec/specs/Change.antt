@@ -1,5 +1,7 @@
 -- What a transaction changed, and what laying that over a page map gives.
-use Rattle.std.specs.Prelude.{ℕ, ◌-◌, Bool, if◌then◌else◌, ◌==◌, List, [], ◌∷◌, ◌++◌, take, drop, slice_set, map, Option, Some, None}
+use Rattle.std.specs.Prelude.{ℕ, ◌+◌, ◌-◌, ◌%◌, ◌^◌, Bool, if◌then◌else◌, ◌==◌, List, [], ◌∷◌, ◌++◌, length, take, drop, slice_set, map, Option, Some, None}
+use Rattle.std.specs.Int.{w32, to_be_bytes}
+use Rattle.page_spec.specs.Bytes.{u32_at}
 use Rattle.page_spec.specs.PageMap.{PageMap, page_at}
 use Rattle.engine_spec.specs.declared.commits.Mode.{Mode}
 use Rattle.engine_spec.specs.declared.commits.Mode.TheVariants.{Plain, Concurrent}
@@ -48,7 +50,41 @@ abbrev pub put_pages : Mode → Bool → PageMap → List PageImage → PageMap
 put_pages mode tail pages [] = pages
 put_pages mode tail pages (image ∷ images) = put_pages mode tail (put_page mode tail pages image) images
 
--- The map that a commit makes of the newest one: the changed pages are put over it, and the new ones follow its last page.
--- What a commit does beyond that joins here: pointers to new pages, freed pages, and page 1's header fields.
+-- The new pages that are laid: all of them, as long as none is freed again.
+abbrev pub new_pages : Change → List PageImage
+new_pages change = change.fresh
+
+-- Laying a change over a map has three steps.
+
+-- Place: the changed pages are put over the map, and the new ones follow its last page.
+abbrev pub placed : PageMap → Change → PageMap
+placed pages change = put_pages change.mode change.tail pages change.changed ++ map (λ image. image.bytes) (new_pages change)
+
+-- Freelist: the freed pages join it. No page is freed yet, so all stays as it was placed; what freeing does to the map joins here.
+abbrev pub with_freed : PageMap → Change → PageMap
+with_freed pages change = pages
+
+-- the change counter of page 1 after one commit more
+abbrev pub next_counter : List ℕ → ℕ
+next_counter first = (u32_at first 24 + 1) % 2 ^ 32
+
+-- the four bytes of a number, the most significant first
+abbrev pub u32_bytes : ℕ → List ℕ
+u32_bytes number = to_be_bytes w32 number
+
+-- Page 1 of a map of so many pages, once its header says so: the change counter at 24 is one more, the size in pages stands at 28,
+-- and the counter that this size is valid for at 92. All other bytes stay.
+-- Source: SQLite's "Database File Format", "File change counter" and "In-header database size".
+abbrev pub stamped : ℕ → List ℕ → List ℕ
+stamped size first =
+    take 24 first ++ (u32_bytes (next_counter first) ++ (u32_bytes size
+    ++ (between 32 92 first ++ (u32_bytes (next_counter first) ++ drop 96 first))))
+
+-- Header: page 1 says how many pages there are, and that the database changed.
+abbrev pub with_header : PageMap → PageMap
+with_header [] = []
+with_header (first ∷ pages) = stamped (length (first ∷ pages)) first ∷ pages
+
+-- The map that a commit makes of the newest one: all three.
 abbrev pub laid : PageMap → Change → PageMap
-laid pages change = put_pages change.mode change.tail pages change.changed ++ map (λ image. image.bytes) change.fresh
+laid pages change = with_header (with_freed (placed pages change) change)

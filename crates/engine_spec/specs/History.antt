@@ -43,16 +43,16 @@ abbrev pub lesser : ℕ × ℕ → Option (ℕ × ℕ) → Option (ℕ × ℕ)
 lesser one None = Some one
 lesser one (Some other) = if nat_lt other.0 one.0 then Some other else Some one
 
--- the page and its first later commit, beside what the pages that follow give
-abbrev pub with_page : ℕ → Option ℕ → Option (ℕ × ℕ) → Option (ℕ × ℕ)
-with_page page None others = others
-with_page page (Some number) others = lesser (page, number) others
+-- the page with its first later commit, where there is one, or what other pages give
+abbrev pub or_others : ℕ → Option ℕ → Option (ℕ × ℕ) → Option (ℕ × ℕ)
+or_others page None others = others
+or_others page (Some number) others = lesser (page, number) others
 
 -- the conflict of a transaction of this mode that read these pages at snapshot n: the least page written since, and its first commit
 abbrev pub conflict : Mode → List ℕ → ℕ → List Commit → Option (ℕ × ℕ)
 conflict mode [] n history = None
 conflict mode (page ∷ pages) n history =
-    with_page page (first_writer mode page n (drop n history)) (conflict mode pages n history)
+    or_others page (first_writer mode page n (drop n history)) (conflict mode pages n history)
 
 -- the accepted statements of these commits, in order
 abbrev pub statements_of : List Commit → List (List ℕ)

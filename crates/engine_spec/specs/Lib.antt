@@ -1,6 +1,9 @@
 pub mod PageSet
 pub mod Change
 pub mod History
-pub mod Logs
-pub mod Seen
+pub mod TwoLogs
+pub mod State
+pub mod Leaves
+pub mod Written
+pub mod Events
 pub mod Good

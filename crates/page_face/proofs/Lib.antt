@@ -1,1 +1,3 @@
 mod ReadSets
+pub mod EngineCalls
+pub mod PageLaws

@@ -1,4 +1,5 @@
 pub mod Pins
 pub mod Prepared
-pub mod Fetch
+pub mod Calls
 pub mod Pages
+pub mod PageCalls

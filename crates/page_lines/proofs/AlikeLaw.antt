@@ -17,7 +17,7 @@ use Rattle.page_lines.specs.declared.lines.Told.TheVariants as told
 use Rattle.page_lines.specs.PageLines.{with_image, read_text, write_text, AreImages}
 use Rattle.engine_spec.specs.Change.{image_of}
 use Rattle.engine_spec.specs.Change.{laid}
-use Rattle.engine_spec.specs.History.{conflict, first_writer, with_page}
+use Rattle.engine_spec.specs.History.{conflict, first_writer, or_others}
 use Rattle.engine_spec.specs.Logs.{one_more}
 use Rattle.engine_spec.specs.Seen.{commit_of}
 use Rattle.page_lines.specs.Range.{IsInRange, AreInRange}
@@ -76,8 +76,8 @@ same_conflict : (mode : Mode) (reads : List ℕ) (n : ℕ) (some others : List C
     → conflict mode reads n some ≡ conflict mode reads n others
 same_conflict mode [] n some others same = refl
 same_conflict mode (page ∷ pages) n some others same =
-    ap (λ (commits : List Commit). with_page page (first_writer mode page n commits) (conflict mode pages n some)) same
-    ∙ ap (with_page page (first_writer mode page n (drop n others))) (same_conflict mode pages n some others same)
+    ap (λ (commits : List Commit). or_others page (first_writer mode page n commits) (conflict mode pages n some)) same
+    ∙ ap (or_others page (first_writer mode page n (drop n others))) (same_conflict mode pages n some others same)
 
 -- a page of the map that a transaction of page lines makes
 laid_at : (s : ℕ) (world : World) (transaction : Transaction) (pages : PageMap) (page : ℕ) → AreImages s transaction.changed

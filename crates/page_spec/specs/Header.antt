@@ -93,9 +93,13 @@ has_usable_bytes fields = nat_le (fields.reserved + 480) (page_size_in fields)
 unfoldable pub has_schema_format : HeaderFields → Bool
 has_schema_format fields = nat_le fields.schema_format 4
 
--- so many pages of this size are within the limit on a file, in bytes
+-- the most bytes that a database has
+abbrev pub database_limit : ℕ
+database_limit = 2 ^ 30
+
+-- so many pages of this size are within the limit on a database, in bytes
 unfoldable pub is_within_limit : ℕ → ℕ → Bool
-is_within_limit pages page_size = nat_le (pages * page_size) (2 ^ 30)
+is_within_limit pages page_size = nat_le (pages * page_size) database_limit
 
 -- the first bytes of page 1 are the header of a readable database, whatever its size
 pub record IsHeader (first : List ℕ) : Type 0 where
