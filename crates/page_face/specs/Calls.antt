@@ -2,7 +2,7 @@
 use Rattle.std.specs.Prelude.{◌≡◌, ℕ, List, Option, IfSome, Result, Ok, Err, OnOk}
 use Rattle.disk_face.specs.declared.Failed.{Failed}
 use Rattle.page_spec.specs.PageMap.{PageMap, page_at}
-use Rattle.crash_spec.specs.Since.{Opening}
+use Rattle.crash_spec.specs.Opening.{Opening}
 use Rattle.engine_spec.specs.declared.pins.Pin.{Pin}
 use Rattle.engine_spec.specs.declared.pins.Ckpt.{Ckpt}
 use Rattle.engine_spec.specs.declared.pins.Logs.{Logs}

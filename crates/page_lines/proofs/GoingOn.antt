@@ -13,9 +13,8 @@ use Rattle.page_lines.specs.declared.lines.Told.TheVariants as told
 use Rattle.page_lines.specs.PageLines.{AreImages}
 use Rattle.engine_spec.specs.Change.{laid}
 use Rattle.engine_spec.specs.History.{conflict}
-use Rattle.engine_spec.specs.Seen.{commit_of}
 use Rattle.page_lines.specs.Range.{IsInRange}
-use Rattle.page_lines.specs.World.{World, SessionState, Out, Open, Refused, Transaction, changed_at, newest_map, shown, change_of, submitted, moved, committed, decided, commit, begin_step, read_step, write_step, commit_step, rollback_step, step}
+use Rattle.page_lines.specs.World.{World, SessionState, Out, Open, Refused, Transaction, changed_at, newest_map, shown, change_of, submitted, commit_in, moved, committed, decided, commit, begin_step, read_step, write_step, commit_step, rollback_step, step}
 use Rattle.page_lines.specs.Exchanges.{Exchange, Accepted, snapshot_of, transaction_of}
 use Rattle.page_lines.proofs.Transactions.{none_are, with_image-are}
 use Rattle.page_lines.proofs.Alone.{IsStore}
@@ -94,7 +93,7 @@ committed_may : (s : ℕ) (world : World) (session : ℕ) (transaction : Transac
     → MayGoOn s world → MayGoOn s (committed world session transaction).world
 committed_may s world session transaction images may =
     let next = laid (newest_map world) (change_of world transaction) in
-    let one = commit_of (submitted world session transaction) in
+    let one = commit_in world session transaction in
     record {
       count = omega (arith, may.count, length-append world.maps (next ∷ []), length-append world.history (one ∷ []));
       newest = subst (IsStore s) (sym (newest_is world.maps world.history next one may.count))

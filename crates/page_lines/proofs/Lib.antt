@@ -1,4 +1,5 @@
 pub mod Transactions
+pub mod Written
 pub mod GoodLines
 pub mod Alone
 pub mod OneMore

@@ -19,8 +19,7 @@ use Rattle.engine_spec.specs.declared.commits.Receipt.TheVariants.{At, ReadOnly}
 use Rattle.page_lines.specs.PageLines.{AreImages, ReadPage, WritePage, read_text, write_text, with_image, page_after}
 use Rattle.engine_spec.specs.Change.{laid}
 use Rattle.engine_spec.specs.History.{counts, is_written, conflict, NoConflict}
-use Rattle.engine_spec.specs.Seen.{commit_of}
-use Rattle.page_lines.specs.World.{World, SessionState, Out, Open, Refused, Transaction, changed_at, map_number, newest_map, change_of, submitted, shown, reads_with, moved, committed, decided, commit, begin_step, read_step, write_step, commit_step, rollback_step, step, Outcome, world_over, zeros}
+use Rattle.page_lines.specs.World.{World, SessionState, Out, Open, Refused, Transaction, changed_at, map_number, newest_map, change_of, submitted, commit_in, pages_written, shown, reads_with, moved, committed, decided, commit, begin_step, read_step, write_step, commit_step, rollback_step, step, Outcome, world_over, zeros}
 use Rattle.page_lines.specs.Range.{IsInRange, AreInRange}
 use Rattle.page_lines.specs.Exchanges.{Exchange, Accepted, is_begin, is_commit, commits_in, snapshot_of, accepted, with_last, transaction_of}
 use Rattle.page_lines.specs.Serial.{IsToldAlone, IsSerialCommit, statements_in}
@@ -28,7 +27,8 @@ use Rattle.page_lines.specs.Legal.{IsLegalCommit, IsLegalFrom}
 use Rattle.engine_spec.proofs.Conflicts.{no_conflict}
 use Rattle.page_lines.proofs.OneMore.{found_at, front_of, last_of, first_stays}
 use Rattle.page_lines.proofs.Ordinals.{ArePast, AreOrdinals, ordinals_moved, ordinals_begun, ordinals_committed, ordinals_none}
-use Rattle.engine_spec.proofs.Laying.{laid-put, laid-page_size, put_pages-at, agree_refl, agree_trans, agree_laid}
+use Rattle.engine_spec.proofs.Laying.{laid-page_size, laid-at, agree_refl, agree_trans, agree_laid}
+use Rattle.page_lines.proofs.Written.{written_covers}
 use Rattle.page_lines.proofs.GoodLines.{lines_whole, laid-store}
 use Rattle.engine_spec.proofs.Laying.{legal_size}
 use Rattle.page_lines.proofs.Alone.{IsStore, IsTied, page-long, tied_none, tied_read, tied_write}
@@ -148,7 +148,7 @@ laid_is_store s world transaction pages images sound =
     let there : AreImages (page_size_of pages) transaction.changed =
     subst (λ (n : ℕ). AreImages n transaction.changed) (sym sound.size) images in
     record {
-      store = laid-store pages change refl there sound.store;
+      store = laid-store pages change refl refl there sound.store;
       size = laid-page_size pages change 16 (page_size_of pages) (omega (arith, legal_size (page_size_of pages) sound.store.size))
           (lines_whole change (page_size_of pages) there refl) (omega (arith, sound.store.count)) (omega (arith, sound.store.count))
           sound.store.each
@@ -161,15 +161,13 @@ pub leaves_laid : (s : ℕ) (world : World) (transaction : Transaction) (done : 
     → (page : ℕ) → 2 ≤ page → page ≤ 16 → page_at (laid pages (change_of world transaction)) page
     ≡ page_after page (statements_in done) (page_at pages page)
 leaves_laid s world transaction done snapshot pages sound tied page low high =
-    ap (λ (map : PageMap). page_at map page) (laid-put pages (change_of world transaction) refl)
-    ∙ (put_pages-at Concurrent false pages transaction.changed 16 page tied.images.different tied.images.in_range
-    (omega (arith, sound.store.count))
-    ∙ sym (tied.fills page (page_at pages page) (page-long s pages page sound low high)))
+    laid-at pages (change_of world transaction) 16 page refl tied.images.different tied.images.in_range (omega (arith, sound.store.count)) low
+    ∙ sym (tied.fills page (page_at pages page) (page-long s pages page sound low high))
 
 -- the commit of a transaction leads from the newest map to the next
 leads_newest : (s : ℕ) (world : World) (session : ℕ) (transaction : Transaction) (done : List Accepted) (snapshot pages : PageMap)
     → IsStore s pages → transaction.snap ≤ length world.history → IsTied s snapshot transaction done
-    → Leads (length world.history) pages (commit_of (submitted world session transaction)) (laid pages (change_of world transaction))
+    → Leads (length world.history) pages (commit_in world session transaction) (laid pages (change_of world transaction))
 leads_newest s world session transaction done snapshot pages sound within tied =
     let change = change_of world transaction in
     let size : 100 ≤ s = omega (arith, legal_size (page_size_of pages) sound.store.size, sound.size) in
@@ -179,7 +177,8 @@ leads_newest s world session transaction done snapshot pages sound within tied =
     let whole = lines_whole change s tied.images refl in
     record {
       agrees = λ numbers left.
-          agree_laid pages (submitted world session transaction) Concurrent 16 s numbers size whole count (omega arith) each left;
+          agree_laid pages (submitted world session transaction) (pages_written transaction.changed) Concurrent 16 s numbers size whole count
+          (omega arith) each (written_covers transaction.changed) left;
       legal = record {
         leads = record {
           statements = statements_in done;
@@ -383,7 +382,7 @@ committed_keeps s first world past session transaction held before whole =
     let within : transaction.snap ≤ length world.history = omega (arith, held.1, whole.maps_count) in
     let newest = newest_map world in
     let next = laid newest (change_of world transaction) in
-    let one = commit_of (submitted world session transaction) in
+    let one = commit_in world session transaction in
     let exchange : Exchange = record { act = act.Commit session; told = told.Done (At (length world.history + 1)) } in
     let sound = newest_store s first world past whole in
     record {
@@ -490,7 +489,7 @@ world_over-is s first sound = record {
       absurd (let bound = slice_get_within [] k commit is_commit in omega arith);
   held = λ session. tt;
   alone = λ session. (omega arith, refl);
-  ordinals = ordinals_none (λ session. 0) (λ session. Out);
+  ordinals = ordinals_none (λ session. Out);
 }
 
 -- such a world's history is legal
