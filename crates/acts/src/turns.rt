@@ -1,16 +1,18 @@
 // What an act does to one session's transaction, and to the engine.
-ghost use Rattle.std.specs.Prelude.{◌≡◌, ◌≢◌, ℕ, ◌≤◌, ◌<◌, List, [], ◌∷◌, length, slice_index, IfOk, OnOk, OnErr, IfSome, MatchOption, MatchResult};
+ghost use Rattle.std.specs.Prelude.{◌≡◌, ◌≢◌, true, ℕ, ◌≤◌, ◌<◌, List, [], ◌∷◌, length, slice_index, IfOk, OnOk, OnErr, IfSome, MatchOption, MatchResult};
 ghost use Rattle.page_spec.specs.PageMap.{page_at};
 ghost use Rattle.engine_spec.specs.declared.commits.CommitFault.TheVariants as fault;
 ghost use Rattle.engine_spec.specs.Change.{image_of};
-ghost use Rattle.engine_spec.specs.Logs.{told_logs};
-ghost use Rattle.engine_spec.specs.Seen.{Found, Fails, OnlyFaults, Checkpoints};
+ghost use Rattle.engine_spec.specs.TwoLogs.{told_logs};
+ghost use Rattle.engine_spec.specs.State.{During};
+ghost use Rattle.engine_spec.specs.Events.{FailsAlone, FailsInStep, Checkpoints};
+ghost use Rattle.page_face.specs.Calls.{IsWhole};
 ghost use Rattle.page_face.specs.Pins.{IsLive};
 ghost use Rattle.acts.specs.declared.seats.Seat.{Seat};
 ghost use Rattle.acts.specs.declared.seats.State.TheVariants as state;
 ghost use Rattle.page_lines.specs.Range.{IsInRange};
-ghost use Rattle.acts.specs.Pagers.{Acts, EndsAll, ReadOpen, FetchOpen, CommitOpen, IsSoundState, IsSoundTransaction, pins_in, StepActs, CopyActs, IsLast};
-ghost use Rattle.acts.specs.Turns.{act_of, Moves, AllLive, Stays, IsRefused, HasBegun, IsBegun};
+ghost use Rattle.acts.specs.Pagers.{Acts, between, EndsAll, ReadOpen, FetchOpen, CommitOpen, IsSoundState, IsSoundTransaction, pins_in, StepActs, CopyActs, IsLast};
+ghost use Rattle.acts.specs.Turns.{act_of, Moves, AllLive, SwapsPins, IsRefused, HasBegun, IsBegun};
 ghost use Rattle.engine_spec.specs.declared.pins.Pin.{Pin};
 ghost use Rattle.page_lines.specs.declared.lines.Told.TheVariants as reply;
 
@@ -66,11 +68,11 @@ fn first_byte<E: Engine<Raw>>(
     requires live { IsLive E.live engine.old pin.now }
     requires page { (1 ≤ page) × (page ≤ pin.now.size) }
     ensures found { IfOk result (λ found. MatchOption found
-        (Found (E.alone engine.old) (E.free engine.old) (E.seen engine.old) (λ mid. Fails mid (E.seen engine.new)))
+        (During (E.state engine.old) (λ mid. FailsAlone mid (E.state engine.new)))
         (λ byte. IfSome (E.map_at engine.old pin.now) (λ pages. byte ≡ slice_index (page_at pages page) 0)
-        × Found (E.alone engine.old) (E.free engine.old) (E.seen engine.old) (λ mid. OnlyFaults mid (E.seen engine.new)))) }
-    ensures wanting { OnErr result (Found (E.alone engine.old) (E.free engine.old) (E.seen engine.old) (λ mid. OnlyFaults mid (E.seen engine.new))) }
-    ensures stays { Stays E.seen E.live E.map_at E.begins E.free E.alone E.loans engine.old [] engine.new [] }
+        × During (E.state engine.old) (λ mid. E.state engine.new ≡ mid))) }
+    ensures wanting { OnErr result (During (E.state engine.old) (λ mid. E.state engine.new ≡ mid)) }
+    ensures stays { SwapsPins E.EngineTells engine.old [] engine.new [] }
 {
     make_room(buf, engine.page_size())?;
     match engine.fetch(pin, page, buf.as_mut_slice()) {
@@ -88,23 +90,16 @@ fn fetch_open<E: Engine<Raw>>(
     page: u32,
 ) -> Result<Told, AllocError>
     requires range { (2 ≤ page) × (page ≤ 16) }
-    requires sound { IsSoundTransaction (E.seen engine.old).page_size transaction.old }
+    requires sound { IsSoundTransaction (E.state engine.old).page_size transaction.old }
     requires live { IsLive E.live engine.old transaction.old.pin }
     ensures acts { IfOk result (λ told. (before after : List Seat) (session ordinal : ℕ)
         → Moves before session ordinal (state.Open transaction.old) (state.Open transaction.new) after
-        → FetchOpen (record {
-          alone = E.alone engine.old;
-          free = E.free engine.old;
-          old = E.seen engine.old;
-          new = E.seen engine.new;
-          map_before = E.map_at engine.old;
-          map_after = E.map_at engine.new;
-        }) session page before after told transaction.old) }
+        → FetchOpen (between E.EngineTells engine.old engine.new) session page before after told transaction.old) }
     ensures want { OnErr result (transaction.new ≡ transaction.old) }
-    ensures wanting { OnErr result (Found (E.alone engine.old) (E.free engine.old) (E.seen engine.old) (λ mid. OnlyFaults mid (E.seen engine.new))) }
-    ensures sound { IsSoundTransaction (E.seen engine.new).page_size transaction.new }
+    ensures wanting { OnErr result (During (E.state engine.old) (λ mid. E.state engine.new ≡ mid)) }
+    ensures sound { IsSoundTransaction (E.state engine.new).page_size transaction.new }
     ensures pin { transaction.new.pin ≡ transaction.old.pin }
-    ensures stays { Stays E.seen E.live E.map_at E.begins E.free E.alone E.loans engine.old [] engine.new [] }
+    ensures stays { SwapsPins E.EngineTells engine.old [] engine.new [] }
 {
     match first_byte(buf, engine, &transaction.pin, page)? {
         None => Ok(Told::Disk),
@@ -124,24 +119,17 @@ fn read_open<E: Engine<Raw>>(
     page: u32,
 ) -> Result<Told, AllocError>
     requires range { (2 ≤ page) × (page ≤ 16) }
-    requires sound { IsSoundTransaction (E.seen engine.old).page_size transaction.old }
+    requires sound { IsSoundTransaction (E.state engine.old).page_size transaction.old }
     requires live { IsLive E.live engine.old transaction.old.pin }
     ensures acts { IfOk result (λ told. (before after : List Seat) (session ordinal : ℕ)
         → Moves before session ordinal (state.Open transaction.old) (state.Open transaction.new) after
-        → ReadOpen (record {
-          alone = E.alone engine.old;
-          free = E.free engine.old;
-          old = E.seen engine.old;
-          new = E.seen engine.new;
-          map_before = E.map_at engine.old;
-          map_after = E.map_at engine.new;
-        }) session page before after told transaction.old
+        → ReadOpen (between E.EngineTells engine.old engine.new) session page before after told transaction.old
         (image_of transaction.old.changed page)) }
     ensures want { OnErr result (transaction.new ≡ transaction.old) }
-    ensures wanting { OnErr result (Found (E.alone engine.old) (E.free engine.old) (E.seen engine.old) (λ mid. OnlyFaults mid (E.seen engine.new))) }
-    ensures sound { IsSoundTransaction (E.seen engine.new).page_size transaction.new }
+    ensures wanting { OnErr result (During (E.state engine.old) (λ mid. E.state engine.new ≡ mid)) }
+    ensures sound { IsSoundTransaction (E.state engine.new).page_size transaction.new }
     ensures pin { transaction.new.pin ≡ transaction.old.pin }
-    ensures stays { Stays E.seen E.live E.map_at E.begins E.free E.alone E.loans engine.old [] engine.new [] }
+    ensures stays { SwapsPins E.EngineTells engine.old [] engine.new [] }
 {
     let page_size = engine.page_size();
     match own_byte(transaction.changed.as_slice(), page, page_size) {
@@ -160,22 +148,15 @@ fn commit_open<E: Engine<Raw>>(
     transaction: Transaction,
     who: Who,
 ) -> (State, Result<Told, AllocError>)
-    requires sound { IsSoundTransaction (E.seen engine.old).page_size transaction }
+    requires sound { IsSoundTransaction (E.state engine.old).page_size transaction }
     requires live { IsLive E.live engine.old transaction.pin }
     ensures acts { IfOk result.1 (λ told. (before after : List Seat)
         → Moves before who.session who.ordinal (state.Open transaction) result.0 after
-        → CommitOpen (record {
-          alone = E.alone engine.old;
-          free = E.free engine.old;
-          old = E.seen engine.old;
-          new = E.seen engine.new;
-          map_before = E.map_at engine.old;
-          map_after = E.map_at engine.new;
-        }) who.session before after transaction told) }
+        → CommitOpen (between E.EngineTells engine.old engine.new) who.session before after transaction told) }
     ensures want { OnErr result.1 (result.0 ≡ state.Open transaction) }
-    ensures wanting { OnErr result.1 (Found (E.alone engine.old) (E.free engine.old) (E.seen engine.old) (λ mid. OnlyFaults mid (E.seen engine.new))) }
-    ensures sound { IsSoundState (E.seen engine.new).page_size result.0 }
-    ensures stays { Stays E.seen E.live E.map_at E.begins E.free E.alone E.loans engine.old (transaction.pin ∷ []) engine.new (pins_in result.0) }
+    ensures wanting { OnErr result.1 (During (E.state engine.old) (λ mid. E.state engine.new ≡ mid)) }
+    ensures sound { IsSoundState (E.state engine.new).page_size result.0 }
+    ensures stays { SwapsPins E.EngineTells engine.old (transaction.pin ∷ []) engine.new (pins_in result.0) }
 {
     let Transaction {
         pin,
@@ -250,22 +231,15 @@ fn turn_open<E: Engine<Raw>>(
     deed: Deed,
 ) -> (State, Result<Told, AllocError>)
     requires range { IsInRange (act_of who.session deed) }
-    requires sound { IsSoundTransaction (E.seen engine.old).page_size transaction }
+    requires sound { IsSoundTransaction (E.state engine.old).page_size transaction }
     requires live { IsLive E.live engine.old transaction.pin }
     ensures acts { IfOk result.1 (λ told. (before after : List Seat)
         → Moves before who.session who.ordinal (state.Open transaction) result.0 after
-        → Acts (record {
-          alone = E.alone engine.old;
-          free = E.free engine.old;
-          old = E.seen engine.old;
-          new = E.seen engine.new;
-          map_before = E.map_at engine.old;
-          map_after = E.map_at engine.new;
-        }) before (act_of who.session deed) told after) }
+        → Acts (between E.EngineTells engine.old engine.new) before (act_of who.session deed) told after) }
     ensures want { OnErr result.1 (result.0 ≡ state.Open transaction) }
-    ensures wanting { OnErr result.1 (Found (E.alone engine.old) (E.free engine.old) (E.seen engine.old) (λ mid. OnlyFaults mid (E.seen engine.new))) }
-    ensures sound { IsSoundState (E.seen engine.new).page_size result.0 }
-    ensures stays { Stays E.seen E.live E.map_at E.begins E.free E.alone E.loans engine.old (transaction.pin ∷ []) engine.new (pins_in result.0) }
+    ensures wanting { OnErr result.1 (During (E.state engine.old) (λ mid. E.state engine.new ≡ mid)) }
+    ensures sound { IsSoundState (E.state engine.new).page_size result.0 }
+    ensures stays { SwapsPins E.EngineTells engine.old (transaction.pin ∷ []) engine.new (pins_in result.0) }
 {
     match deed {
         Deed::Read { page } => {
@@ -289,16 +263,9 @@ fn turn_open<E: Engine<Raw>>(
 fn turn_refused<E: Engine<Raw>>(engine: &mut E, pin: Pin, session: u32, deed: Deed) -> (State, Told)
     requires live { IsLive E.live engine.old pin }
     ensures acts { (before after : List Seat) (ordinal : ℕ) → Moves before session ordinal (state.Refused pin) result.0 after
-        → Acts (record {
-          alone = E.alone engine.old;
-          free = E.free engine.old;
-          old = E.seen engine.old;
-          new = E.seen engine.new;
-          map_before = E.map_at engine.old;
-          map_after = E.map_at engine.new;
-        }) before (act_of session deed) result.1 after }
+        → Acts (between E.EngineTells engine.old engine.new) before (act_of session deed) result.1 after }
     ensures sound { (page_size : ℕ) → IsSoundState page_size result.0 }
-    ensures stays { Stays E.seen E.live E.map_at E.begins E.free E.alone E.loans engine.old (pin ∷ []) engine.new (pins_in result.0) }
+    ensures stays { SwapsPins E.EngineTells engine.old (pin ∷ []) engine.new (pins_in result.0) }
 {
     match deed {
         Deed::Rollback => {
@@ -320,24 +287,17 @@ pub fn turn<E: Engine<Raw>>(
     deed: Deed,
 ) -> Result<Told, AllocError>
     requires range { IsInRange (act_of seat.old.session deed) }
-    requires sound { IsSoundState (E.seen engine.old).page_size seat.old.state }
+    requires sound { IsSoundState (E.state engine.old).page_size seat.old.state }
     requires live { AllLive E.live engine.old (pins_in seat.old.state) }
     ensures acts { IfOk result (λ told. (before after : List Seat)
         → Moves before seat.old.session seat.old.begun seat.old.state seat.new.state after
-        → Acts (record {
-          alone = E.alone engine.old;
-          free = E.free engine.old;
-          old = E.seen engine.old;
-          new = E.seen engine.new;
-          map_before = E.map_at engine.old;
-          map_after = E.map_at engine.new;
-        }) before (act_of seat.old.session deed) told after) }
+        → Acts (between E.EngineTells engine.old engine.new) before (act_of seat.old.session deed) told after) }
     ensures want { OnErr result (seat.new ≡ seat.old) }
-    ensures wanting { OnErr result (Found (E.alone engine.old) (E.free engine.old) (E.seen engine.old) (λ mid. OnlyFaults mid (E.seen engine.new))) }
+    ensures wanting { OnErr result (During (E.state engine.old) (λ mid. E.state engine.new ≡ mid)) }
     ensures session { seat.new.session ≡ seat.old.session }
     ensures begun { seat.new.begun ≡ seat.old.begun }
-    ensures sound { IsSoundState (E.seen engine.new).page_size seat.new.state }
-    ensures stays { Stays E.seen E.live E.map_at E.begins E.free E.alone E.loans engine.old (pins_in seat.old.state) engine.new (pins_in seat.new.state) }
+    ensures sound { IsSoundState (E.state engine.new).page_size seat.new.state }
+    ensures stays { SwapsPins E.EngineTells engine.old (pins_in seat.old.state) engine.new (pins_in seat.new.state) }
 {
     let who = Who {
         session: seat.session,
@@ -360,19 +320,13 @@ pub fn turn<E: Engine<Raw>>(
 
 /// Begins a transaction of a session that is out of one.
 pub fn begin_out<E: Engine<Raw>>(alloc: Global, engine: &mut E, seat: &mut Seat)
+    requires whole { IsWhole E.EngineTells engine.old }
     requires may { E.may_begin engine.old }
-    requires pages { 16 ≤ (E.seen engine.old).size }
+    requires pages { 16 ≤ (E.state engine.old).size }
     requires out { seat.old.state ≡ state.Out }
-    ensures begun { HasBegun (record {
-      alone = E.alone engine.old;
-      free = E.free engine.old;
-      old = E.seen engine.old;
-      new = E.seen engine.new;
-      map_before = E.map_at engine.old;
-      map_after = E.map_at engine.new;
-    }) seat.old seat.new }
-    ensures sound { IsSoundState (E.seen engine.new).page_size seat.new.state }
-    ensures stays { Stays E.seen E.live E.map_at E.begins E.free E.alone E.loans engine.old [] engine.new (pins_in seat.new.state) }
+    ensures begun { HasBegun (between E.EngineTells engine.old engine.new) seat.old seat.new }
+    ensures sound { IsSoundState (E.state engine.new).page_size seat.new.state }
+    ensures stays { SwapsPins E.EngineTells engine.old [] engine.new (pins_in seat.new.state) }
 {
     let pin = engine.begin();
     seat.begun = seat.begun.saturating_add(1);
@@ -387,15 +341,9 @@ pub fn begin_out<E: Engine<Raw>>(alloc: Global, engine: &mut E, seat: &mut Seat)
 
 /// Takes one step of a checkpoint.
 pub fn step<E: Engine<Raw>>(engine: &mut E) -> Told
-    ensures acts { StepActs (record {
-      alone = E.alone engine.old;
-      free = E.free engine.old;
-      old = E.seen engine.old;
-      new = E.seen engine.new;
-      map_before = E.map_at engine.old;
-      map_after = E.map_at engine.new;
-    }) result }
-    ensures stays { Stays E.seen E.live E.map_at E.begins E.free E.alone E.loans engine.old [] engine.new [] }
+    requires whole { IsWhole E.EngineTells engine.old }
+    ensures acts { StepActs (between E.EngineTells engine.old engine.new) result }
+    ensures stays { SwapsPins E.EngineTells engine.old [] engine.new [] }
 {
     match checkpoint(engine) {
         Ok(answer) => Told::Ckpt(answer),
@@ -405,28 +353,23 @@ pub fn step<E: Engine<Raw>>(engine: &mut E) -> Told
 
 /// Says how the logs stand.
 pub fn logs<E: Engine<Raw>>(engine: &mut E) -> Told
-    ensures acts { Found (E.alone engine.old) (E.free engine.old) (E.seen engine.old)
-        (λ mid. (result ≡ reply.Logs (told_logs mid.logs)) × (E.seen engine.new ≡ mid)) }
-    ensures stays { Stays E.seen E.live E.map_at E.begins E.free E.alone E.loans engine.old [] engine.new [] }
+    requires whole { IsWhole E.EngineTells engine.old }
+    ensures acts { During (E.state engine.old)
+        (λ mid. (result ≡ reply.Logs (told_logs mid.logs mid.history)) × (E.state engine.new ≡ mid)) }
+    ensures stays { SwapsPins E.EngineTells engine.old [] engine.new [] }
 {
     Told::Logs(engine.logs())
 }
 
 /// Begins a transaction of a session that has acted before.
 pub fn begin_again<E: Engine<Raw>>(alloc: Global, engine: &mut E, seat: &mut Seat) -> Told
+    requires whole { IsWhole E.EngineTells engine.old }
     requires may { E.may_begin engine.old }
-    requires pages { 16 ≤ (E.seen engine.old).size }
-    requires sound { IsSoundState (E.seen engine.old).page_size seat.old.state }
-    ensures begun { IsBegun (record {
-      alone = E.alone engine.old;
-      free = E.free engine.old;
-      old = E.seen engine.old;
-      new = E.seen engine.new;
-      map_before = E.map_at engine.old;
-      map_after = E.map_at engine.new;
-    }) seat.old seat.new result seat.old.state }
-    ensures sound { IsSoundState (E.seen engine.new).page_size seat.new.state }
-    ensures stays { Stays E.seen E.live E.map_at E.begins E.free E.alone E.loans engine.old (pins_in seat.old.state) engine.new (pins_in seat.new.state) }
+    requires pages { 16 ≤ (E.state engine.old).size }
+    requires sound { IsSoundState (E.state engine.old).page_size seat.old.state }
+    ensures begun { IsBegun (between E.EngineTells engine.old engine.new) seat.old seat.new result seat.old.state }
+    ensures sound { IsSoundState (E.state engine.new).page_size seat.new.state }
+    ensures stays { SwapsPins E.EngineTells engine.old (pins_in seat.old.state) engine.new (pins_in seat.new.state) }
 {
     match &seat.state {
         State::Out => {
@@ -440,16 +383,10 @@ pub fn begin_again<E: Engine<Raw>>(alloc: Global, engine: &mut E, seat: &mut Sea
 
 /// Takes steps of a checkpoint until one copies no page.
 pub fn copy<E: Engine<Raw>>(engine: &mut E) -> Told
-    requires { E.free engine.old }
-    ensures acts { CopyActs (record {
-      alone = E.alone engine.old;
-      free = E.free engine.old;
-      old = E.seen engine.old;
-      new = E.seen engine.new;
-      map_before = E.map_at engine.old;
-      map_after = E.map_at engine.new;
-    }) result }
-    ensures stays { Stays E.seen E.live E.map_at E.begins E.free E.alone E.loans engine.old [] engine.new [] }
+    requires whole { IsWhole E.EngineTells engine.old }
+    requires always { (E.state engine.old).always_begins ≡ true }
+    ensures acts { CopyActs (between E.EngineTells engine.old engine.new) result }
+    ensures stays { SwapsPins E.EngineTells engine.old [] engine.new [] }
 {
     let mut last = 0;
     loop {
@@ -468,10 +405,11 @@ pub fn copy<E: Engine<Raw>>(engine: &mut E) -> Told
 
 // Takes one step of a checkpoint.
 fn checkpoint<E: Engine<Raw>>(engine: &mut E) -> Result<Ckpt, Failed>
+    requires whole { IsWhole E.EngineTells engine.old }
     ensures answer { MatchResult result
-        (λ done. Found (E.alone engine.old) (E.free engine.old) (E.seen engine.old) (λ mid. Checkpoints mid done (E.seen engine.new)))
-        (λ _. Found (E.alone engine.old) (E.free engine.old) (E.seen engine.old) (λ mid. Fails mid (E.seen engine.new))) }
-    ensures stays { Stays E.seen E.live E.map_at E.begins E.free E.alone E.loans engine.old [] engine.new [] }
+        (λ done. During (E.state engine.old) (λ mid. Checkpoints (E.opened engine.old) mid done (E.state engine.new)))
+        (λ _. During (E.state engine.old) (λ mid. FailsInStep (E.opened engine.old) mid (E.state engine.new))) }
+    ensures stays { SwapsPins E.EngineTells engine.old [] engine.new [] }
 {
     engine.ckpt()
 }
@@ -489,8 +427,8 @@ fn copied_page(answer: Ckpt) -> Option<u32>
 /// Gives back the pin of a session that is in a transaction.
 pub fn end_one<E: Engine<Raw>>(state: &State, engine: &mut E)
     requires live { AllLive E.live engine.old (pins_in state.now) }
-    ensures ends { EndsAll (pins_in state.now) (E.seen engine.old) (E.seen engine.new) }
-    ensures stays { Stays E.seen E.live E.map_at E.begins E.free E.alone E.loans engine.old (pins_in state.now) engine.new [] }
+    ensures ends { EndsAll (pins_in state.now) (E.state engine.old) (E.state engine.new) }
+    ensures stays { SwapsPins E.EngineTells engine.old (pins_in state.now) engine.new [] }
 {
     match state {
         State::Out => {}

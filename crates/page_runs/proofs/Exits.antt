@@ -23,7 +23,7 @@ use Rattle.page_runs.specs.declared.status.Status.{Status}
 use Rattle.page_runs.specs.declared.status.Status.TheVariants as ended
 use Rattle.page_runs.specs.declared.lines.Next.{Next}
 use Rattle.page_runs.specs.declared.lines.Next.TheVariants as next
-use Rattle.acts.specs.InMemory.{Memory, IsAt}
+use Rattle.page_runs.specs.InMemory.{Memory, IsAt}
 use Rattle.page_lines.specs.Range.{IsInRange}
 use Rattle.page_runs.specs.Reading.{Reading, script_left, WhereTold, Advances}
 use Rattle.page_runs.specs.Outcome.{act_in, acts_in, replies, line_in, lines_run, is_refused, refused_text, text_of, status_of, source_failed, cut_text, PutsFront, IsCut, Ran, RunEnds, SaysLast}

@@ -1,3 +1,4 @@
+pub mod Memory
 pub mod Written
 pub mod Ranges
 pub mod Advancing

@@ -3,12 +3,14 @@
 //! `specs/Outcome.antt` says what a script writes, and with which status its run ends.
 #![tactic(auto)]
 
+mod in_memory;
 mod lines;
 mod output;
 mod pages;
 mod reply;
 mod status;
 
+pub use in_memory::{InMemory, engine_of_zeros};
 pub use output::{say_last, write_all};
 pub use pages::run_pages;
 pub use reply::told_text;

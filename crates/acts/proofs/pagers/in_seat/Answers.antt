@@ -4,7 +4,7 @@ use Rattle.acts.proofs.pagers.in_seat.Goals as goal
 
 pub turn-requires-clause-live : goal.turn-requires-clause-live
 turn-requires-clause-live g c =
-    live_there g.E.Engine.live c.args.engine.now c.args.seats.now.items c.args.session c.in-Some.at c.index_mut.result.now
+    live_there g.E.EngineTells.live c.args.engine.now c.args.seats.now.items c.args.session c.in-Some.at c.index_mut.result.now
     (let e = rw c.as_slice.ensures.value at c.place_of.ensures in sym e ∙ c.in-Some.is) c.index_mut.ensures.value c.requires.live
 
 pub returns-in-None-clause-acts : goal.returns-in-None-clause-acts
@@ -20,6 +20,6 @@ returns-in-Some-clause-acts g c =
 
 pub returns-in-Some-clause-stays : goal.returns-in-Some-clause-stays
 returns-in-Some-clause-stays g c =
-    seat_stays g.E.Engine.seen g.E.Engine.live g.E.Engine.map_at g.E.Engine.begins g.E.Engine.free g.E.Engine.alone g.E.Engine.loans
+    seat_stays g.E.EngineTells
     c.args.engine.now c.turn.new.engine c.args.seats.now.items c.args.session c.in-Some.at c.index_mut.result.now c.turn.new.seat
     (let e = rw c.as_slice.ensures.value at c.place_of.ensures in sym e ∙ c.in-Some.is) c.index_mut.ensures.value c.turn.ensures.stays

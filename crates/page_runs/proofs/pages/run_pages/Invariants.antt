@@ -1,7 +1,7 @@
 use Rattle.std.proofs.Common.{◌≡◌, ◌≤◌, ◌+◌, ◌-◌, IfSome}
 use Rattle.page_lines.specs.World.{World}
 use Rattle.script.specs.Raw.{script_limit}
-use Rattle.acts.specs.InMemory.{IsAt}
+use Rattle.page_runs.specs.InMemory.{IsAt}
 use Rattle.page_runs.specs.Reading.{script_left}
 use Rattle.page_runs.proofs.Standing.{Standing}
 use Rattle.page_runs.proofs.pages.run_pages.Given as goal

@@ -11,7 +11,7 @@ use Rattle.page_lines.proofs.Alone.{IsStore}
 use Rattle.acts.specs.declared.seats.Seat.{Seat}
 use Rattle.acts.specs.Pagers.{Between, Acts, AreSound, pins_of}
 use Rattle.memory_engine.specs.Plain.{PlainState, IsPlain, PlainLive, newest_of, plain_seen}
-use Rattle.acts.specs.InMemory.{Memory, IsAt}
+use Rattle.page_runs.specs.InMemory.{Memory, IsAt}
 use Rattle.acts.proofs.Telling.{never_rose}
 use Rattle.acts.proofs.Standing.{Stands, stay, tells_quiet}
 use Rattle.acts.proofs.StandingActs.{acts_stand}

@@ -4,11 +4,12 @@ ghost use Rattle.page_spec.specs.PageMap.{page_size_of};
 ghost use Rattle.memory_engine.specs.Plain.{PlainLive, newest_of};
 ghost use Rattle.page_lines.specs.World.{World, zeros, start, step};
 ghost use Rattle.page_lines.specs.Range.{IsInRange};
-ghost use Rattle.acts.specs.InMemory.{Memory, IsAt};
+ghost use Rattle.page_runs.specs.InMemory.{Memory, IsAt};
 
-use crate::{Pagers, Plain, Raw};
+use acts::Pagers;
 use disk_face::Bytes;
-use page_lines::{Act, Told};
+use memory_engine::Plain;
+use page_lines::{Act, Raw, Told};
 use std::alloc::{AllocError, Global};
 use std::marker::Model;
 
@@ -22,7 +23,7 @@ pub struct InMemory {
 }
 
 impl Model for InMemory {
-    ghost use Rattle.acts.specs.InMemory.{Memory};
+    ghost use Rattle.page_runs.specs.InMemory.{Memory};
 
     ghost Value = { Memory };
 

@@ -2,7 +2,7 @@ use Rattle.std.proofs.Common.{sym, subst, Result, Ok, Err}
 use Rattle.std.specs.Prelude.{IfOk, OnErr}
 use Rattle.page_lines.specs.World.{step}
 use Rattle.std.proofs.lemmas.Result.{IfOk-weaker}
-use Rattle.acts.specs.InMemory.{Memory, IsAt}
+use Rattle.page_runs.specs.InMemory.{Memory, IsAt}
 use Rattle.acts.proofs.Memory.{memory_acts, memory_wants}
 use Rattle.acts.proofs.in_memory.InMemory.act.Goals as goal
 
