@@ -5,15 +5,10 @@ use Rattle.std.specs.List.Sorted.{IsStrictlyIncreasing}
 use Rattle.page_spec.specs.PageMap.{PageMap}
 use Rattle.engine_spec.specs.declared.commits.PageImage.{PageImage}
 use Rattle.engine_spec.specs.Change.{Change}
-use Rattle.engine_spec.specs.PageSet.{with_page}
+use Rattle.engine_spec.specs.PageSet.{with_page, with_pages}
 use Rattle.engine_spec.proofs.PageSets.{with_rises, with_has, with_keeps, with_cases}
 use Rattle.engine_spec.proofs.Conflicts.{contains_cases, contains_more}
 use Rattle.engine_spec.specs.Written.{Writes, numbers_from, trunks}
-
--- the set with each of these pages
-abbrev pub with_pages : List ℕ → List ℕ → List ℕ
-with_pages set [] = set
-with_pages set (page ∷ pages) = with_pages (with_page set page) pages
 
 pub pages_rise : (set pages : List ℕ) → IsStrictlyIncreasing set → IsStrictlyIncreasing (with_pages set pages)
 pages_rise set [] rises = rises

@@ -5,7 +5,7 @@ use Rattle.disk_face.specs.Faults.{Rose, one_more}
 use Rattle.disk_face.specs.declared.Failed.{Failed}
 use Rattle.page_spec.specs.Header.{database_limit}
 use Rattle.page_spec.specs.PageMap.{PageMap}
-use Rattle.crash_spec.specs.Since.{Opening}
+use Rattle.crash_spec.specs.Opening.{Opening}
 use Rattle.engine_spec.specs.declared.pins.Pin.{Pin}
 use Rattle.engine_spec.specs.declared.pins.Readers.{Readers}
 use Rattle.engine_spec.specs.declared.pins.Lock.{Lock}

@@ -5,7 +5,8 @@ use Rattle.disk_face.specs.Steps.{History}
 use Rattle.disk_face.specs.Image.{MayLeave}
 use Rattle.page_spec.specs.PageMap.{PageMap}
 use Rattle.crash_spec.specs.Known.{IsWithoutChance}
-use Rattle.crash_spec.specs.Since.{Opening, Since, ThroughoutSince}
+use Rattle.crash_spec.specs.Moments.{AtEachMoment}
+use Rattle.crash_spec.specs.Opening.{Opening, Since}
 use Rattle.crash_spec.specs.Recovered.{recovered}
 use Rattle.engine_spec.specs.State.{Stop, EngineState}
 
@@ -25,13 +26,13 @@ may_recover state = if_told state.newest ++ kept_map state.stopped
 
 -- an image of a moment recovers one of these maps, where nothing in it is as it is by chance
 abbrev pub RecoversOneOf : Opening → List PageMap → History → Files → Type 0
-RecoversOneOf opening maps told image = IsWithoutChance opening.pieces told image → Contains maps (recovered image)
+RecoversOneOf opening maps told image = IsWithoutChance opening told image → Contains maps (recovered image)
 
 -- From the moment when the disk told the one history to the moment when it tells the other, each image of each moment recovers one of
 -- these maps, for each of these openings.
 abbrev pub AtEach : (Opening → Type 0) → List PageMap → Option History → Option History → Type 0
 AtEach opened maps old new = (opening : Opening) → opened opening
-    → ThroughoutSince opening.before opening.start (RecoversOneOf opening maps) old new
+    → AtEachMoment opening (RecoversOneOf opening maps) old new
 
 -- each image that may be left at this moment recovers one of these maps
 abbrev pub LeavesOneOf : Opening → List PageMap → History → Type 0

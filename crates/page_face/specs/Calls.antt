@@ -2,7 +2,7 @@
 use Rattle.std.specs.Prelude.{◌≡◌, ℕ, List, Option, IfSome, Result, Ok, Err, OnOk}
 use Rattle.disk_face.specs.declared.Failed.{Failed}
 use Rattle.page_spec.specs.PageMap.{PageMap, page_at}
-use Rattle.crash_spec.specs.Since.{Opening}
+use Rattle.crash_spec.specs.Opening.{Opening}
 use Rattle.engine_spec.specs.declared.pins.Pin.{Pin}
 use Rattle.engine_spec.specs.declared.pins.Ckpt.{Ckpt}
 use Rattle.engine_spec.specs.declared.pins.Logs.{Logs}
@@ -19,7 +19,7 @@ use Rattle.engine_spec.specs.Good.{MayLayOn}
 use Rattle.page_face.specs.declared.means.Means.{Ghosts as Meaning}
 use Rattle.page_face.specs.declared.engine_tells.EngineTells.{Ghosts}
 use Rattle.page_face.specs.declared.prepared.Prepared.{Prepared}
-use Rattle.page_face.specs.Pins.{IsLive, KeepsPins, AddsPin, TakesPin}
+use Rattle.page_face.specs.Pins.{KeepsPins, AddsPin, TakesPin}
 use Rattle.page_face.specs.Prepared.{submitted, IsGood, IsHandedBack}
 
 -- the engine is whole, whatever pins hold in it

@@ -1,7 +1,7 @@
 // What an engine tells. It has no calls, so that a record of specs/ can take all that it tells as one value.
 ghost use Rattle.std.specs.Prelude.{◌≡◌, ℕ, ◌≤◌, List, length, Contains, Option, IsSome, true};
 ghost use Rattle.page_spec.specs.PageMap.{PageMap, page_sizes};
-ghost use Rattle.crash_spec.specs.Since.{Opening};
+ghost use Rattle.crash_spec.specs.Opening.{Opening};
 ghost use Rattle.engine_spec.specs.declared.pins.Pin.{Pin};
 ghost use Rattle.engine_spec.specs.TwoLogs.{TwoLogs, AreLogs};
 ghost use Rattle.engine_spec.specs.State.{EngineState};
