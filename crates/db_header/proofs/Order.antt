@@ -2,7 +2,7 @@
 use Rattle.std.proofs.Common.{◌≡◌, ℕ, ◌+◌, ◌*◌, ◌^◌, ◌<◌, ◌≤◌, ◌&&◌, true, false, List, refl, arith, Some, None, get_or, ◌==◌, nat_le, if◌then◌else◌}
 use Rattle.std.proofs.lemmas.Bool.Decides.{nat_tests}
 use Rattle.page_spec.specs.Bytes.{u16_at, u32_at}
-use Rattle.page_spec.specs.Header.{fields_of, page_size_in, pages_in, spelled_page_size, is_page_size, is_database, has_page_size, has_versions, is_utf8, is_without_auto_vacuum, has_usable_bytes, has_schema_format, is_within_limit, IsHeader}
+use Rattle.page_spec.specs.Header.{database_limit, fields_of, page_size_in, pages_in, spelled_page_size, is_page_size, is_database, has_page_size, has_versions, is_utf8, is_without_auto_vacuum, has_usable_bytes, has_schema_format, is_within_limit, IsHeader}
 use Rattle.db_header.specs.Header.{refusal, tests_of, header_of, IsTold}
 use Rattle.db_header.specs.declared.fault.HeaderFault.{HeaderFault}
 use Rattle.db_header.specs.declared.fault.HeaderFault.TheVariants.{NotADb, PageSize, Versions, Utf16, AutoVacuum, Reserved, Format, TooLarge}
@@ -155,19 +155,19 @@ limit_left first file_size p =
       format_pass first p,
     ) refl
 
-pub refused_limit : (first : List ℕ) (file_size : ℕ) → PassesFormat first → 2 ^ 30 < pages_in first file_size * page_size_in (fields_of first)
+pub refused_limit : (first : List ℕ) (file_size : ℕ) → PassesFormat first → database_limit < pages_in first file_size * page_size_in (fields_of first)
     → refusal first file_size ≡ Some (TooLarge (pages_in first file_size))
 unfolding is_within_limit
 refused_limit first file_size p h =
     let left = limit_left first file_size p in
-    rw (le_false (pages_in first file_size * page_size_in (fields_of first)) (2 ^ 30) h) at left
+    rw (le_false (pages_in first file_size * page_size_in (fields_of first)) database_limit h) at left
 
-pub accepted : (first : List ℕ) (file_size : ℕ) → PassesFormat first → pages_in first file_size * page_size_in (fields_of first) ≤ 2 ^ 30
+pub accepted : (first : List ℕ) (file_size : ℕ) → PassesFormat first → pages_in first file_size * page_size_in (fields_of first) ≤ database_limit
     → refusal first file_size ≡ None
 unfolding is_within_limit
 accepted first file_size p h =
     let left = limit_left first file_size p in
-    rw (le_true (pages_in first file_size * page_size_in (fields_of first)) (2 ^ 30) h) at left
+    rw (le_true (pages_in first file_size * page_size_in (fields_of first)) database_limit h) at left
 
 -- the page size in bytes, from the two bytes that spell it
 pub page_size_read : (first : List ℕ) → page_size_in (fields_of first) ≡ spelled_page_size (u16_at first 16)
@@ -191,7 +191,7 @@ header_passes first p =
     }
 
 -- what an accepted header tells is told by some bytes
-pub told_passes : (first : List ℕ) (file_size : ℕ) → PassesFormat first → pages_in first file_size * page_size_in (fields_of first) ≤ 2 ^ 30
+pub told_passes : (first : List ℕ) (file_size : ℕ) → PassesFormat first → pages_in first file_size * page_size_in (fields_of first) ≤ database_limit
     → IsTold (header_of first file_size)
 unfolding header_of fields_of
 told_passes first file_size p h =
@@ -225,7 +225,7 @@ unusable_from r s h = omega arith
 
 -- the bytes are a header within the limit
 abbrev pub IsWithin : List ℕ → ℕ → Type 0
-IsWithin first file_size = IsHeader first × (pages_in first file_size * page_size_in (fields_of first) ≤ 2 ^ 30)
+IsWithin first file_size = IsHeader first × (pages_in first file_size * page_size_in (fields_of first) ≤ database_limit)
 
 accepted_within : (first : List ℕ) (file_size : ℕ) → IsWithin first file_size → refusal first file_size ≡ None
 unfolding refusal tests_of is_within_limit
@@ -238,7 +238,7 @@ accepted_within first file_size (h, within) =
       h.without_auto_vacuum,
       h.usable_bytes,
       h.schema_format,
-      le_true (pages_in first file_size * page_size_in (fields_of first)) (2 ^ 30) within,
+      le_true (pages_in first file_size * page_size_in (fields_of first)) database_limit within,
     ) refl
 
 -- a header that is refused isn't one within the limit
@@ -247,6 +247,6 @@ pub refused_iff : (first : List ℕ) (file_size : ℕ) (fault : HeaderFault) →
 refused_iff first file_size fault told =
     (λ no. cc, λ within. let none = accepted_within first file_size within in cc)
 
-pub accepted_iff : (first : List ℕ) (file_size : ℕ) → PassesFormat first → pages_in first file_size * page_size_in (fields_of first) ≤ 2 ^ 30
+pub accepted_iff : (first : List ℕ) (file_size : ℕ) → PassesFormat first → pages_in first file_size * page_size_in (fields_of first) ≤ database_limit
     → (true ≡ true → IsWithin first file_size) × (IsWithin first file_size → true ≡ true)
 accepted_iff first file_size p within = (λ yes. (header_passes first p, within), λ is. refl)

@@ -1,6 +1,6 @@
 -- What a header tells, and which fault a header that is refused is told as.
 use Rattle.std.specs.Prelude.{◌≡◌, ℕ, ◌+◌, ◌*◌, ◌^◌, ◌≤◌, List, [], ◌∷◌, Bool, ◌==◌, if◌then◌else◌, IsTrue, Option, Some, None}
-use Rattle.page_spec.specs.Header.{fields_of, page_size_in, pages_in, is_page_size, is_database, has_page_size, has_versions, is_utf8, is_without_auto_vacuum, has_usable_bytes, has_schema_format, is_within_limit}
+use Rattle.page_spec.specs.Header.{database_limit, fields_of, page_size_in, pages_in, is_page_size, is_database, has_page_size, has_versions, is_utf8, is_without_auto_vacuum, has_usable_bytes, has_schema_format, is_within_limit}
 use Rattle.db_header.specs.declared.header.Header.{Header}
 use Rattle.db_header.specs.declared.fault.HeaderFault.{HeaderFault}
 use Rattle.db_header.specs.declared.fault.HeaderFault.TheVariants.{NotADb, PageSize, Versions, Utf16, AutoVacuum, Reserved, Format, TooLarge}
@@ -65,4 +65,4 @@ pub record IsTold (header : Header) : Type 0 where
   pub usable_bytes : header.reserved + 480 ≤ header.page_size
   pub format : header.format ≤ 4
   pub encoding : header.encoding ≡ 1
-  pub within_limit : header.pages * header.page_size ≤ 2 ^ 30
+  pub within_limit : header.pages * header.page_size ≤ database_limit

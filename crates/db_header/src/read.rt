@@ -1,5 +1,5 @@
 ghost use Rattle.std.specs.Prelude.{◌≡◌, ◌*◌, ◌^◌, ◌<◌, ◌≤◌, ◌↔◌, ◌+◌, length, List, ℕ, Some, None, IsTrue, IsOk, IsSome, IfSome, MatchOption, MatchResult, OnOk, IfOk};
-ghost use Rattle.page_spec.specs.Header.{fields_of, page_size_in, pages_in, spelled_page_size, is_page_size, is_database, IsHeader};
+ghost use Rattle.page_spec.specs.Header.{database_limit, fields_of, page_size_in, pages_in, spelled_page_size, is_page_size, is_database, IsHeader};
 ghost use Rattle.db_header.specs.Header.{refusal, header_of, TellsHeader, IsTold};
 
 use crate::fault::HeaderFault;
@@ -21,7 +21,7 @@ pub fn read_header(first: &[u8], file_size: u64) -> Result<Header, HeaderFault>
         (λ header. TellsHeader first.now file_size header)
         (λ fault. refusal first.now file_size ≡ Some fault) }
     ensures accepted { IsOk result
-        ↔ IsHeader first.now × (pages_in first.now file_size * page_size_in (fields_of first.now) ≤ 2 ^ 30) }
+        ↔ IsHeader first.now × (pages_in first.now file_size * page_size_in (fields_of first.now) ≤ database_limit) }
     ensures told { IfOk result (λ header. IsTold header) }
 {
     if !is_database(first) {

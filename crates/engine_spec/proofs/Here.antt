@@ -1,7 +1,6 @@
 -- Nothing changed meanwhile.
-use Rattle.std.proofs.Common.{◌≡◌, ℕ, List, [], ◌++◌, length, refl, sym, append-nil, arith, Option, Some, None, true, subst}
+use Rattle.std.proofs.Common.{◌≡◌, [], refl, sym, append-nil, arith, Option, Some, None, true, subst}
 use Rattle.disk_face.specs.Steps.{History}
-use Rattle.crash_spec.specs.Opening.{grown}
 use Rattle.engine_spec.specs.State.{EngineState, Stop, Later, During, KeepsStop, GoesOn}
 
 stop_stays : (stop : Option Stop) → KeepsStop stop stop

@@ -1,6 +1,6 @@
 -- What a map holds once pages were put over it, and on which pages it then agrees with what it was.
 use Rattle.std.proofs.Common.{◌≡◌, ℕ, ◌+◌, ◌-◌, ◌≤◌, Bool, true, false, ◌||◌, not, cond, eqb, List, [], ◌∷◌, ◌++◌, length, set, take, drop, map, Option, Some, None, zero, suc, refl, sym, subst, ap, ◌∙◌, inl, inr, arith, rules, eq-eqb}
-use Rattle.std.specs.Prelude.{Contains, All, ◌⊎◌, unwrap_or, slice_index, filter}
+use Rattle.std.specs.Prelude.{Contains, All, ◌⊎◌, unwrap_or, slice_index}
 use Rattle.std.specs.List.{list_any}
 use Rattle.std.proofs.lemmas.List.{length-set, length-append, length-take, length-drop, length-map, get_or-map, get_or-set_same, get_or-set_other, get_or_append_left, get_or-take, append-nil, drop_at, drop-drop, append_assoc}
 use Rattle.std.proofs.lemmas.List.Elements.{All-head, All-tail, All-cons, All-set, All-contains, All-from_recursion}
@@ -12,7 +12,7 @@ use Rattle.engine_spec.specs.declared.commits.PageImage.{PageImage}
 use Rattle.engine_spec.specs.PageSet.{AreDifferent}
 use Rattle.engine_spec.specs.Change.{Change, image_of, between, laid_first, laid_page, put_page, put_pages, placed, next_counter, u32_bytes, stamped, with_header, laid}
 use Rattle.engine_spec.specs.History.{counts}
-use Rattle.engine_spec.specs.Written.{Submitted, commit_of, Writes, numbers_from, pages_with}
+use Rattle.engine_spec.specs.Written.{Submitted, commit_of, Writes, numbers_from}
 use Rattle.engine_spec.proofs.Conflicts.{contains_cases, contains_more}
 
 -- each legal page size is at least 512 bytes

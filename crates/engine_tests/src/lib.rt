@@ -5,8 +5,6 @@
 #[cfg(test)]
 mod lines;
 #[cfg(test)]
-mod shared;
-#[cfg(test)]
 mod shelf;
 #[cfg(test)]
 mod sizes;

@@ -1,6 +1,6 @@
 -- What a commit of the engine in memory tells, and what it keeps.
-use Rattle.std.proofs.Common.{◌≡◌, ◌∙◌, ℕ, ◌+◌, ◌*◌, ◌^◌, ◌<◌, ◌≤◌, List, [], ◌∷◌, ◌++◌, length, take, drop, refl, sym, ap, subst, inl, inr, arith, Contains, get_or, length-append, length-drop, add-one, add-zero, append-nil, Result, Ok, Err, true, false}
-use Rattle.std.specs.Prelude.{slice_get, Option, Some, suc, IfSome, IfOk, IfErr, MatchResult}
+use Rattle.std.proofs.Common.{◌≡◌, ◌∙◌, ℕ, ◌+◌, ◌*◌, ◌<◌, ◌≤◌, List, [], ◌∷◌, ◌++◌, length, take, drop, refl, sym, ap, subst, inl, inr, arith, Contains, get_or, length-append, length-drop, add-zero, append-nil, Result, Ok, Err, true, false}
+use Rattle.std.specs.Prelude.{slice_get, Option, Some, None, zero, suc, IfSome, MatchResult}
 use Rattle.std.proofs.lemmas.Bool.{false≢true, cases_lt}
 use Rattle.std.proofs.lemmas.Option.{slice_get-get_or, get_or_from_slice_get}
 use Rattle.std.proofs.lemmas.List.{get_or_append_left, get_or-drop, take-append-le, take_all}
@@ -13,20 +13,25 @@ use Rattle.engine_spec.specs.declared.commits.Mode.{Mode}
 use Rattle.engine_spec.specs.declared.commits.Mode.TheVariants.{Plain, Concurrent}
 use Rattle.engine_spec.specs.declared.commits.Who.{Who}
 use Rattle.engine_spec.specs.declared.commits.Receipt.{Receipt}
-use Rattle.engine_spec.specs.declared.commits.Receipt.TheVariants.{At}
 use Rattle.engine_spec.specs.declared.commits.CommitFault.{CommitFault}
 use Rattle.engine_spec.specs.declared.commits.CommitFault.TheVariants as fault
 use Rattle.engine_spec.specs.Change.{laid}
 use Rattle.engine_spec.specs.History.{counts, NoConflict, statements_of, SnapsBefore}
-use Rattle.engine_spec.specs.Seen.{Submitted, Found, Accepts, Refuses, IsCommitted, commit_of, IsClear, pages_after}
+use Rattle.crash_spec.specs.Opening.{Opening}
+use Rattle.page_spec.specs.Header.{database_limit}
+use Rattle.engine_spec.specs.Written.{Submitted, commit_of, numbers_from}
+use Rattle.engine_spec.specs.Events.{AcceptsCommit, RefusesCommit, IsCommitted, IsClear, pages_after}
+use Rattle.engine_spec.proofs.WrittenSets.{writes_changed}
 use Rattle.engine_spec.specs.Good.{MayLayOn}
 use Rattle.engine_spec.proofs.Laying.{laid-length, page_at-length}
+use Rattle.page_face.specs.declared.means.Means.{Ghosts as Meaning}
+use Rattle.page_face.specs.declared.engine_tells.EngineTells.{Ghosts}
 use Rattle.page_face.specs.declared.prepared.Prepared.{Prepared}
-use Rattle.page_face.specs.Prepared.{submitted, change_in, IsFit, IsGood}
+use Rattle.page_face.specs.Prepared.{submitted, change_in, IsFit, IsGood, IsHandedBack}
+use Rattle.page_face.specs.Calls.{IsLaidOn, IsLaidOnEach, CommitKeepsRuns}
 use Rattle.page_face.specs.Pins.{IsLive, KeepsPins}
-use Rattle.memory_engine.specs.Plain.{PlainState, IsPlain, Holds, PlainLive, PlainRuns, MayAdd, newest_of, plain_seen, up_to, committed_state}
-use Rattle.memory_engine.specs.PlainLaws.{held}
-use Rattle.memory_engine.proofs.Moments.{found_here}
+use Rattle.memory_engine.specs.Plain.{PlainState, IsPlain, IsOfMap, PlainLive, PlainRuns, MayAdd, Bars, IsFree, Adds, written, no_readers, newest_of, state_of, committed_state}
+use Rattle.memory_engine.specs.PlainLaws.{held, plain_run}
 use Rattle.memory_engine.proofs.PlainCommits.{plain_more, agree_since, more_cases, newest_whole, pages_are, found_at, uncounted_at, may_add}
 
 -- a list with one more is one longer
@@ -37,28 +42,59 @@ one_longer xs x = omega (arith, length-append xs (x ∷ []))
 newest_more : (plain : PlainState) (asked : Submitted) → IsPlain plain
     → newest_of (committed_state plain asked) ≡ laid (newest_of plain) asked.change
 newest_more plain asked whole =
-    let at : length (plain.history ++ commit_of asked ∷ []) ≡ length plain.maps =
-    omega (arith, one_longer plain.history (commit_of asked), whole.count) in
+    let at : length (plain.history ++ commit_of asked (written asked.change) ∷ []) ≡ length plain.maps =
+    omega (arith, one_longer plain.history (commit_of asked (written asked.change)), whole.count) in
     ap (λ (k : ℕ). get_or (plain.maps ++ laid (newest_of plain) asked.change ∷ []) k []) at
     ∙ get_or-append_seam plain.maps (laid (newest_of plain) asked.change) [] []
 
+-- so many numbers and one more
+numbers_more : (from count : ℕ) → numbers_from from (suc count) ≡ numbers_from from count ++ (from + count) ∷ []
+numbers_more from zero = ap (λ (n : ℕ). n ∷ []) (omega arith)
+numbers_more from (suc count) =
+    ap (λ (rest : List ℕ). from ∷ rest)
+    (numbers_more (from + 1) count ∙ ap (λ (n : ℕ). numbers_from (from + 1) count ++ n ∷ []) (omega arith))
+
+-- nothing bars a transaction that wrote and is free
+pub is_clear : {M : Type 0} (plain : PlainState) (prepared : Prepared M) (who : Who) → prepared.wrote ≡ true → IsFree plain prepared
+    → IsClear (state_of plain) (submitted prepared who)
+is_clear plain prepared who wrote free = record { wrote = wrote; running = refl; free = free.free; fits = free.fits }
+
 -- the commit that nothing bars
-pub is_committed : {M : Type 0} (plain : PlainState) (prepared : Prepared M) (who : Who) → MayAdd plain prepared
-    → IsClear (plain_seen plain) (submitted prepared who)
-    → IsCommitted (plain_seen plain) (submitted prepared who) (length plain.history + 1) (plain_seen (committed_state plain (submitted prepared who)))
-is_committed plain prepared who may clear =
+pub is_committed : {M : Type 0} (opened : Opening → Type 0) (plain : PlainState) (prepared : Prepared M) (who : Who) → MayAdd plain prepared
+    → IsClear (state_of plain) (submitted prepared who)
+    → IsCommitted opened (state_of plain) (submitted prepared who) (length plain.history + 1)
+    (state_of (committed_state plain (submitted prepared who)))
+is_committed opened plain prepared who may clear =
     let asked = submitted prepared who in
-    let longer : length (plain.history ++ commit_of asked ∷ []) ≡ suc (length plain.history) = one_longer plain.history (commit_of asked) in
-    let own : up_to (length (plain.history ++ commit_of asked ∷ [])) ≡ up_to (length plain.history) ++ (length plain.history + 1) ∷ [] =
-    ap up_to longer ∙ ap (λ (n : ℕ). up_to (length plain.history) ++ n ∷ []) (sym (add-one (length plain.history))) in
+    let more = commit_of asked (written asked.change) in
+    let longer : length (plain.history ++ more ∷ []) ≡ suc (length plain.history) = one_longer plain.history more in
+    let own : numbers_from 1 (length (plain.history ++ more ∷ [])) ≡ numbers_from 1 (length plain.history) ++ (length plain.history + 1) ∷ [] =
+    ap (numbers_from 1) longer ∙ numbers_more 1 (length plain.history)
+    ∙ ap (λ (n : ℕ). numbers_from 1 (length plain.history) ++ n ∷ []) (omega arith) in
     let newest : newest_of (committed_state plain asked) ≡ laid (newest_of plain) asked.change = newest_more plain asked may.whole in
-    let size : length (newest_of (committed_state plain asked)) ≡ pages_after (plain_seen plain) asked.change =
+    let size : length (newest_of (committed_state plain asked)) ≡ pages_after (state_of plain) asked.change =
     ap length newest ∙ laid-length (newest_of plain) asked.change may.fresh ∙ sym (pages_are plain prepared may) in
     record {
       clear = clear;
       number_is = refl;
-      faults = omega arith;
-      after_is = cc;
+      pages = written asked.change;
+      wrote = writes_changed (Some (newest_of plain)) (length (newest_of plain)) asked.change may.fresh;
+      moments = λ opening is. tt;
+      after_is = λ i. record {
+        history = plain.history ++ more ∷ [];
+        own = own i;
+        newest = Some (newest i);
+        size = size i;
+        stopped = None;
+        faults = 0;
+        page_size = plain.page_size;
+        usable = plain.usable;
+        always_begins = true;
+        alone = true;
+        logs = None;
+        readers = no_readers;
+        disk = None;
+      };
     }
 
 -- the pins that held hold, with the same maps
@@ -71,10 +107,10 @@ keeps_more plain prepared who may =
       hold = λ pins live. (
         plain_more plain prepared who may,
         λ k d within.
-            let hold : Holds plain (get_or pins k d) = live.1 k d within in
+            let hold : IsOfMap plain (get_or pins k d) = live.1 k d within in
             let n = hold.n in
             record {
-              n = omega (arith, one_longer plain.history (commit_of (submitted prepared who)));
+              n = omega (arith, one_longer plain.history (commit_of (submitted prepared who) (written (change_in prepared))));
               size = hold.size
                   ∙ ap length (sym (get_or_append_left plain.maps (next ∷ []) [] (get_or pins k d).n (omega arith)));
             },
@@ -89,7 +125,7 @@ keeps_more plain prepared who may =
     }
 
 -- the change may be laid on the newest map
-may_lay : (plain : PlainState) → IsPlain plain → (mode : Mode) (reads : List ℕ) (n : ℕ) → n ≤ length plain.history
+pub may_lay : (plain : PlainState) → IsPlain plain → (mode : Mode) (reads : List ℕ) (n : ℕ) → n ≤ length plain.history
     → (mode ≡ Plain → Contains reads 1) → NoConflict mode reads n plain.history
     → MayLayOn mode (get_or plain.maps n []) reads (newest_of plain)
 may_lay plain whole Concurrent reads n within first none = agree_since plain whole n within reads none
@@ -134,7 +170,7 @@ pub runs_more : {M : Type 0} (sound : PageMap → Type 0) (leads : PageMap → P
     → ((before between after : PageMap) (some others : List (List ℕ)) → leads first before some between
     → leads first between others after → leads first before (some ++ others) after)
     → (plain : PlainState) (pin : Pin) (prepared : Prepared M) (who : Who) → IsLive PlainLive plain pin
-    → IsFit (plain_seen plain) pin prepared → IsClear (plain_seen plain) (submitted prepared who)
+    → IsFit (state_of plain) pin prepared → IsClear (state_of plain) (submitted prepared who)
     → IfSome (slice_get plain.maps pin.n) (λ snapshot. IsGood sound (leads first) snapshot prepared)
     → PlainRuns sound (leads first) first plain → PlainRuns sound (leads first) first (committed_state plain (submitted prepared who))
 runs_more sound leads first joins plain pin prepared who live fit clear good runs =
@@ -155,7 +191,7 @@ runs_more sound leads first joins plain pin prepared who live fit clear good run
     let sizes = newest_whole plain whole in
     let page_size : page_size_of (newest_of plain) ≡ plain.page_size =
     page_at-length (newest_of plain) plain.page_size 1 sizes.2.each (omega arith) sizes.0 in
-    let small : length (newest_of plain) * page_size_of (newest_of plain) ≤ 2 ^ 30 =
+    let small : length (newest_of plain) * page_size_of (newest_of plain) ≤ database_limit =
     rw (page_size, ← pages_are plain prepared may) clear.fits.pages in
     let snap : prepared.snap ≡ pin.n = fit.snap in
     let none : NoConflict prepared.mode prepared.reads pin.n plain.history = rw (← snap) clear.free in
@@ -168,90 +204,88 @@ runs_more sound leads first joins plain pin prepared who live fit clear good run
     (rw all at stands.1) laid_good.1 in
     record {
       whole = plain_more plain prepared who may;
-      snaps = snaps_push 0 plain.history (commit_of asked) runs.snaps (omega arith);
+      snaps = snaps_push 0 plain.history (commit_of asked (written asked.change)) runs.snaps (omega arith);
       each = λ k pages found.
           elim (more_cases plain.maps (laid (newest_of plain) change) k pages found) [
             | inl old ↦
-                let front : take k (plain.history ++ commit_of asked ∷ []) ≡ take k plain.history =
-                take-append-le k plain.history (commit_of asked ∷ []) (let low = old.0 in omega arith) in
+                let front : take k (plain.history ++ commit_of asked (written asked.change) ∷ []) ≡ take k plain.history =
+                take-append-le k plain.history (commit_of asked (written asked.change) ∷ []) (let low = old.0 in omega arith) in
                 let was : sound pages × leads first first (statements_of (take k plain.history)) pages = runs.each k pages old.1 in
                 (was.0, rw front was.1)
             | inr last ↦
-                let long : take k (plain.history ++ commit_of asked ∷ []) ≡ plain.history ++ commit_of asked ∷ [] =
-                take_all k (plain.history ++ commit_of asked ∷ [])
-                (let at = last.0 in omega (arith, one_longer plain.history (commit_of asked))) in (
+                let long : take k (plain.history ++ commit_of asked (written asked.change) ∷ []) ≡ plain.history ++ commit_of asked (written asked.change) ∷ [] =
+                take_all k (plain.history ++ commit_of asked (written asked.change) ∷ [])
+                (let at = last.0 in omega (arith, one_longer plain.history (commit_of asked (written asked.change)))) in (
                   subst sound (sym last.1) laid_good.0,
-                  rw (long, statements_more plain.history (commit_of asked), last.1) led,
+                  rw (long, statements_more plain.history (commit_of asked (written asked.change)), last.1) led,
                 )
           ];
     }
 
--- what `add` says of its answer and of the engine after it
-abbrev pub Added : {M : Type 0} → PlainState → Prepared M → Who → Result Receipt (CommitFault × Prepared M) → PlainState → Type 0
-Added plain prepared who (Ok receipt) new =
-    (receipt ≡ At (length plain.history + 1)) × (new ≡ committed_state plain (submitted prepared who))
-Added plain prepared who (Err refusal) new = (refusal.0 ≡ fault.Memory) × (refusal.1 ≡ prepared) × (new ≡ plain)
+-- what bars a transaction is the cause that is told
+pub bars_refuses : {M : Type 0} (opened : Opening → Type 0) (stands : Type 0) (plain : PlainState) (prepared : Prepared M) (who : Who)
+    (why : CommitFault) → prepared.wrote ≡ true → Bars plain prepared why
+    → RefusesCommit opened stands (state_of plain) (submitted prepared who) why (state_of plain)
+bars_refuses opened stands plain prepared who (fault.BusySnapshot page number) wrote bars = (wrote, refl, bars, refl)
+bars_refuses opened stands plain prepared who (fault.SizeLimit pages frames) wrote bars = (wrote, refl, bars.0, bars.1, bars.2, bars.3, refl)
+bars_refuses opened stands plain prepared who (fault.Stopped log at) wrote bars = absurd bars
+bars_refuses opened stands plain prepared who fault.Memory wrote bars = absurd bars
+bars_refuses opened stands plain prepared who fault.Disk wrote bars = absurd bars
+bars_refuses opened stands plain prepared who (fault.Corrupt page) wrote bars = absurd bars
 
--- its two clauses as one
-pub added_is : {M : Type 0} (plain : PlainState) (prepared : Prepared M) (who : Who) (result : Result Receipt (CommitFault × Prepared M))
-    (new : PlainState)
-    → IfOk result (λ receipt. (receipt ≡ At (length plain.history + 1)) × (new ≡ committed_state plain (submitted prepared who)))
-    → IfErr result (λ refusal. (refusal.0 ≡ fault.Memory) × (refusal.1 ≡ prepared) × (new ≡ plain))
-    → Added plain prepared who result new
-added_is plain prepared who (Ok receipt) new ok err = ok
-added_is plain prepared who (Err refusal) new ok err = err
+-- The map on which the commit is laid, where the engine stands for a run: it is sound, led to, and may be laid on.
+pub laid_on : {M : Type 0} (sound : PageMap → Type 0) (leads : PageMap → List (List ℕ) → PageMap → Type 0) (first : PageMap)
+    (plain : PlainState) (pin : Pin) (prepared : Prepared M) → IsLive PlainLive plain pin → IsFit (state_of plain) pin prepared
+    → IsFree plain prepared → PlainRuns sound leads first plain
+    → IsLaidOn sound (leads first) (slice_get plain.maps pin.n) prepared (state_of plain) (newest_of plain)
+laid_on sound leads first plain pin prepared live fit free runs =
+    let told = (plain_run sound leads first plain runs).newest (newest_of plain) refl in
+    let hold = held plain pin live in
+    let found : slice_get plain.maps pin.n ≡ Some (get_or plain.maps pin.n []) =
+    slice_get-get_or plain.maps pin.n [] (omega (arith, live.1.0.count, hold.n)) in
+    let snap : prepared.snap ≡ pin.n = fit.snap in
+    record {
+      is_sound = told.0;
+      led = told.1;
+      may_lay = subst (λ (snapshot : Option PageMap). IfSome snapshot (λ s. MayLayOn prepared.mode s prepared.reads (newest_of plain))) (sym found)
+          (may_lay plain live.1.0 prepared.mode prepared.reads pin.n hold.n fit.first_page (rw (← snap) free.free));
+    }
 
--- the answer of a commit that nothing bars
-pub answers_more : {M : Type 0} (plain : PlainState) (prepared : Prepared M) (who : Who) → MayAdd plain prepared
-    → IsClear (plain_seen plain) (submitted prepared who) → (result : Result Receipt (CommitFault × Prepared M)) (new : PlainState)
-    → Added plain prepared who result new
+-- the answer of a commit that nothing bars, and on which map it was laid
+pub match_added : {M : Type 0} (means : Meaning M) (told : Ghosts PlainState M) (opened : Opening → Type 0) (stands : Type 0)
+    (plain : PlainState) (pin : Pin) (prepared : Prepared M) (who : Who) → MayAdd plain prepared
+    → IsClear (state_of plain) (submitted prepared who)
+    → ((first : PageMap) → told.stands_from plain first
+    → IsLaidOn (means.sound first) (means.leads first first) (told.map_at plain pin) prepared (state_of plain) (newest_of plain))
+    → (result : Result Receipt (CommitFault × Prepared M)) (new : PlainState) → Adds plain prepared who result new
     → MatchResult result
-    (λ receipt. Accepts (plain_seen plain) (submitted prepared who) receipt (plain_seen new))
-    (λ refusal. (refusal.1 ≡ prepared) × Refuses (plain_seen plain) (submitted prepared who) refusal.0 (plain_seen new))
-answers_more plain prepared who may clear (Ok receipt) new added =
-    rw (added.0, added.1) (is_committed plain prepared who may clear)
-answers_more plain prepared who may clear (Err refusal) new added =
-    (added.1, rw added.0 (clear, ap plain_seen added.2))
-
--- an answer that comes at once is found
-pub answers_found : {M : Type 0} (plain : PlainState) (prepared : Prepared M) (who : Who)
-    (result : Result Receipt (CommitFault × Prepared M)) (new : PlainState)
-    → MatchResult result
-    (λ receipt. Accepts (plain_seen plain) (submitted prepared who) receipt (plain_seen new))
-    (λ refusal. (refusal.1 ≡ prepared) × Refuses (plain_seen plain) (submitted prepared who) refusal.0 (plain_seen new))
-    → MatchResult result
-    (λ receipt. Found (Unit {0}) (Unit {0}) (plain_seen plain) (λ mid. Accepts mid (submitted prepared who) receipt (plain_seen new)))
-    (λ refusal. (refusal.1 ≡ prepared)
-    × Found (Unit {0}) (Unit {0}) (plain_seen plain) (λ mid. Refuses mid (submitted prepared who) refusal.0 (plain_seen new)))
-answers_found plain prepared who (Ok receipt) new told =
-    found_here (Unit {0}) (Unit {0}) (plain_seen plain) (λ mid. Accepts mid (submitted prepared who) receipt (plain_seen new)) told
-answers_found plain prepared who (Err refusal) new told = (
-  told.0,
-  found_here (Unit {0}) (Unit {0}) (plain_seen plain) (λ mid. Refuses mid (submitted prepared who) refusal.0 (plain_seen new)) told.1,
-)
+    (λ receipt. AcceptsCommit opened (state_of plain) (submitted prepared who) receipt (state_of new)
+    × IsLaidOnEach means told plain pin prepared receipt (state_of plain))
+    (λ refusal. IsHandedBack prepared refusal
+    × RefusesCommit opened stands (state_of plain) (submitted prepared who) refusal.0 (state_of new))
+match_added means told opened stands plain pin prepared who may clear laid (Ok receipt) new added =
+    rw (added.0, added.1) (is_committed opened plain prepared who may clear, laid)
+match_added means told opened stands plain pin prepared who may clear laid (Err refusal) new added =
+    (added.1, rw added.0 (clear, ap state_of added.2))
 
 -- the pins after it
-pub pins_after : {M : Type 0} (plain : PlainState) (prepared : Prepared M) (who : Who) → MayAdd plain prepared
-    → (result : Result Receipt (CommitFault × Prepared M)) (new : PlainState) → Added plain prepared who result new
+pub pins_added : {M : Type 0} (plain : PlainState) (prepared : Prepared M) (who : Who) → MayAdd plain prepared
+    → (result : Result Receipt (CommitFault × Prepared M)) (new : PlainState) → Adds plain prepared who result new
     → KeepsPins PlainLive (λ (p : PlainState) (q : Pin). slice_get p.maps q.n) plain new
-pins_after plain prepared who may (Ok receipt) new added =
+pins_added plain prepared who may (Ok receipt) new added =
     subst (λ (s : PlainState). KeepsPins PlainLive (λ (p : PlainState) (q : Pin). slice_get p.maps q.n) plain s) (sym added.1)
     (keeps_more plain prepared who may)
-pins_after plain prepared who may (Err refusal) new added =
+pins_added plain prepared who may (Err refusal) new added =
     subst (λ (s : PlainState). KeepsPins PlainLive (λ (p : PlainState) (q : Pin). slice_get p.maps q.n) plain s) (sym added.2)
     (record { hold = λ pins live. live; maps = λ pin live. refl })
 
--- and the runs that it stands for
-pub runs_after : {M : Type 0} (sound : PageMap → Type 0) (leads : PageMap → PageMap → List (List ℕ) → PageMap → Type 0) (first : PageMap)
-    → ((before between after : PageMap) (some others : List (List ℕ)) → leads first before some between
-    → leads first between others after → leads first before (some ++ others) after)
-    → (plain : PlainState) (pin : Pin) (prepared : Prepared M) (who : Who) → IsLive PlainLive plain pin
-    → IsFit (plain_seen plain) pin prepared → IsClear (plain_seen plain) (submitted prepared who)
-    → IfSome (slice_get plain.maps pin.n) (λ snapshot. IsGood sound (leads first) snapshot prepared)
-    → (result : Result Receipt (CommitFault × Prepared M)) (new : PlainState) → Added plain prepared who result new
-    → PlainRuns sound (leads first) first plain → PlainRuns sound (leads first) first new
-runs_after sound leads first joins plain pin prepared who live fit clear good (Ok receipt) new added runs =
-    subst (λ (s : PlainState). PlainRuns sound (leads first) first s) (sym added.1)
-    (runs_more sound leads first joins plain pin prepared who live fit clear good runs)
-runs_after sound leads first joins plain pin prepared who live fit clear good (Err refusal) new added runs =
-    subst (λ (s : PlainState). PlainRuns sound (leads first) first s) (sym added.2) runs
+-- and the runs that go on
+pub runs_added : {M : Type 0} (means : Meaning M) (told : Ghosts PlainState M) (plain : PlainState) (pin : Pin) (prepared : Prepared M) (who : Who)
+    → ((first : PageMap) → told.stands_from plain first
+    → IfSome (told.map_at plain pin) (λ snapshot. IsGood (means.sound first) (means.leads first) snapshot prepared)
+    → told.stands_from (committed_state plain (submitted prepared who)) first)
+    → (result : Result Receipt (CommitFault × Prepared M)) (new : PlainState) → Adds plain prepared who result new
+    → CommitKeepsRuns means told plain pin prepared result new
+runs_added means told plain pin prepared who more (Ok receipt) new added = rw (added.0, added.1) more
+runs_added means told plain pin prepared who more (Err refusal) new added = λ first runs.
+    subst (λ (s : PlainState). told.stands_from s first) (sym added.2) runs

@@ -1,4 +1,4 @@
-pub mod Moments
 pub mod PlainPins
 pub mod PlainCommits
 pub mod CommitKeeps
+pub mod Stamping

@@ -1,5 +1,5 @@
 -- Commits of the engine in memory.
-use Rattle.std.proofs.Common.{◌≡◌, ◌∙◌, ℕ, ◌+◌, ◌-◌, ◌*◌, ◌^◌, ◌<◌, ◌≤◌, ◌⊎◌, true, false, List, [], ◌∷◌, ◌++◌, length, drop, refl, sym, ap, subst, inl, inr, arith, All, Contains, get_or, length-append, length-drop, add-zero}
+use Rattle.std.proofs.Common.{◌≡◌, ◌∙◌, ℕ, ◌+◌, ◌-◌, ◌*◌, ◌^◌, ◌<◌, ◌≤◌, ◌⊎◌, false, List, [], ◌∷◌, ◌++◌, length, drop, refl, sym, ap, subst, inl, inr, arith, All, Contains, get_or, length-append, length-drop, add-zero}
 use Rattle.std.specs.Prelude.{slice_get, Some, None, suc, zero}
 use Rattle.std.specs.List.{list_any}
 use Rattle.std.proofs.lemmas.Bool.{or_parts, cases_lt}
@@ -13,17 +13,20 @@ use Rattle.engine_spec.specs.declared.commits.Commit.{Commit}
 use Rattle.engine_spec.specs.declared.commits.Mode.{Mode}
 use Rattle.engine_spec.specs.declared.commits.Mode.TheVariants.{Concurrent}
 use Rattle.engine_spec.specs.declared.commits.Who.{Who}
-use Rattle.engine_spec.specs.Change.{laid}
+use Rattle.engine_spec.specs.Change.{Change, laid}
 use Rattle.engine_spec.specs.History.{counts, is_written, conflict, NoConflict}
-use Rattle.engine_spec.specs.Seen.{commit_of, written, IsClear, pages_after, frames_after}
+use Rattle.engine_spec.specs.TwoLogs.{frame_limit}
+use Rattle.page_spec.specs.Header.{database_limit}
+use Rattle.engine_spec.specs.Written.{commit_of}
+use Rattle.engine_spec.specs.Events.{pages_after, frames_after}
 use Rattle.engine_spec.specs.Good.{HasSizes}
-use Rattle.engine_spec.proofs.Laying.{agree_refl, agree_trans, agree_laid, laid-length, laid-whole, IsWhole}
-use Rattle.engine_spec.proofs.Laying.{legal_size}
+use Rattle.engine_spec.proofs.WrittenSets.{writes_changed}
+use Rattle.engine_spec.proofs.Laying.{legal_size, any_there, covers, CoversChange, agree_refl, agree_trans, agree_laid, laid-length, laid-whole, IsWhole}
 use Rattle.engine_spec.proofs.Conflicts.{no_conflict}
 use Rattle.page_face.specs.declared.prepared.Prepared.{Prepared}
 use Rattle.page_face.specs.Prepared.{submitted, change_in, IsFit}
 use Rattle.page_face.specs.Pins.{IsLive}
-use Rattle.memory_engine.specs.Plain.{PlainState, IsPlain, PlainLive, Follows, MayAdd, newest_of, plain_seen, committed_state}
+use Rattle.memory_engine.specs.Plain.{PlainState, IsPlain, PlainLive, LeadsOn, MayAdd, IsFree, written, newest_of, state_of, committed_state}
 use Rattle.memory_engine.specs.PlainLaws.{held, inside}
 
 -- where none of some commits wrote a page, each of them didn't
@@ -82,7 +85,7 @@ agree_since plain whole n within numbers none =
 
 -- a transaction that is handed in may be laid over the newest map
 pub may_add : {M : Type 0} (plain : PlainState) (pin : Pin) (prepared : Prepared M) → IsLive PlainLive plain pin
-    → IsFit (plain_seen plain) pin prepared → MayAdd plain prepared
+    → IsFit (state_of plain) pin prepared → MayAdd plain prepared
 may_add plain pin prepared live fit =
     let hold = held plain pin live in
     let agree : Agree (get_or plain.maps pin.n []) (newest_of plain) [] =
@@ -126,29 +129,33 @@ more_cases xs x k y found =
 only_all : {X : Type 0} (P : X → Type 0) (x : X) → P x → All P (x ∷ [])
 only_all P x here = All-cons P x [] here (λ k d within. absurd (omega arith))
 
+-- what is told of it covers the change
+covers_written : (change : Change) → change.fresh ≡ [] → CoversChange change (written change)
+covers_written change none = covers None 0 change (written change) (writes_changed None 0 change none)
+
 -- the commit leads from the newest map to the one with the change laid over it
-pub follows_laid : {M : Type 0} (plain : PlainState) (prepared : Prepared M) (who : Who) → MayAdd plain prepared
-    → Follows (newest_of plain) (commit_of (submitted prepared who)) (laid (newest_of plain) (change_in prepared))
-follows_laid plain prepared who may =
+pub leads_laid : {M : Type 0} (plain : PlainState) (prepared : Prepared M) (who : Who) → MayAdd plain prepared
+    → LeadsOn (newest_of plain) (commit_of (submitted prepared who) (written (change_in prepared))) (laid (newest_of plain) (change_in prepared))
+leads_laid plain prepared who may =
     let newest = newest_whole plain may.whole in
     let size = legal_size plain.page_size may.whole.legal in
     record {
       agrees = λ numbers left.
-          agree_laid (newest_of plain) (submitted prepared who) Concurrent (length (newest_of plain)) plain.page_size numbers
-          (omega arith) (whole_change plain prepared may) (omega arith) newest.0 newest.2.each left;
-      first_page = refl;
+          agree_laid (newest_of plain) (submitted prepared who) (written (change_in prepared)) Concurrent (length (newest_of plain)) plain.page_size numbers
+          (omega arith) (whole_change plain prepared may) (omega arith) newest.0 newest.2.each (covers_written (change_in prepared) may.fresh) left;
+      first_page = any_there (written (change_in prepared)) 1 (covers_written (change_in prepared) may.fresh 1 (zero, omega arith, refl));
     }
 
 -- each commit of the engine with one more leads from one map to the next
 chain_more : {M : Type 0} (plain : PlainState) (prepared : Prepared M) (who : Who) → MayAdd plain prepared
     → (k : ℕ) (old new : PageMap) (commit : Commit)
     → slice_get (plain.maps ++ laid (newest_of plain) (change_in prepared) ∷ []) k ≡ Some old
-    → slice_get (plain.history ++ commit_of (submitted prepared who) ∷ []) k ≡ Some commit
-    → slice_get (plain.maps ++ laid (newest_of plain) (change_in prepared) ∷ []) (k + 1) ≡ Some new → Follows old commit new
+    → slice_get (plain.history ++ commit_of (submitted prepared who) (written (change_in prepared)) ∷ []) k ≡ Some commit
+    → slice_get (plain.maps ++ laid (newest_of plain) (change_in prepared) ∷ []) (k + 1) ≡ Some new → LeadsOn old commit new
 chain_more plain prepared who may k old new commit is_old is_commit is_new =
     let count = may.whole.count in
     let next = laid (newest_of plain) (change_in prepared) in
-    let last = commit_of (submitted prepared who) in
+    let last = commit_of (submitted prepared who) (written (change_in prepared)) in
     elim (more_cases plain.history last k commit is_commit) [
       | inl before ↦
           elim (more_cases plain.maps next k old is_old) [
@@ -167,10 +174,10 @@ chain_more plain prepared who may k old new commit is_old is_commit is_new =
                   | inr past ↦
                       let is_newest : newest_of plain ≡ old =
                       ap (λ (m : ℕ). get_or plain.maps m []) (sym at.0) ∙ get_or_from_slice_get plain.maps k old [] here.1 in
-                      let one : Follows (newest_of plain) last next = follows_laid plain prepared who may in
-                      let two : Follows old last next = subst (λ (m : PageMap). Follows m last next) is_newest one in
-                      let three : Follows old commit next = subst (λ (c : Commit). Follows old c next) (sym at.1) two in
-                      subst (λ (m : PageMap). Follows old commit m) (sym past.1) three
+                      let one : LeadsOn (newest_of plain) last next = leads_laid plain prepared who may in
+                      let two : LeadsOn old last next = subst (λ (m : PageMap). LeadsOn m last next) is_newest one in
+                      let three : LeadsOn old commit next = subst (λ (c : Commit). LeadsOn old c next) (sym at.1) two in
+                      subst (λ (m : PageMap). LeadsOn old commit m) (sym past.1) three
                 ]
             | inr past ↦ absurd (let low = at.0 in let high = past.0 in omega arith)
           ]
@@ -196,7 +203,7 @@ plain_more plain prepared who may =
         arith,
         whole.count,
         length-append plain.maps (laid (newest_of plain) change ∷ []),
-        length-append plain.history (commit_of (submitted prepared who) ∷ []),
+        length-append plain.history (commit_of (submitted prepared who) (written (change_in prepared)) ∷ []),
       );
       few = All-append (λ (pages : PageMap). (1 ≤ length pages) × (length pages < 2 ^ 32)) plain.maps (laid (newest_of plain) change ∷ []) whole.few
           (only_all (λ (pages : PageMap). (1 ≤ length pages) × (length pages < 2 ^ 32)) (laid (newest_of plain) change)
@@ -209,26 +216,24 @@ plain_more plain prepared who may =
 
 -- how many pages the map of the commit has
 pub pages_are : {M : Type 0} (plain : PlainState) (prepared : Prepared M) → MayAdd plain prepared
-    → pages_after (plain_seen plain) (change_in prepared) ≡ length (newest_of plain)
+    → pages_after (state_of plain) (change_in prepared) ≡ length (newest_of plain)
 pages_are plain prepared may = omega (arith, ap length may.fresh)
 
 -- and how many frames there could be
 pub frames_are : {M : Type 0} (plain : PlainState) (prepared : Prepared M) → MayAdd plain prepared
-    → frames_after (plain_seen plain) (change_in prepared) ≡ length prepared.changed + 2
+    → frames_after (state_of plain) (change_in prepared) ≡ length prepared.changed + 2
 frames_are plain prepared may = omega (arith, ap length may.fresh, ap length may.freed)
 
--- nothing bars a transaction that wrote, conflicts with no commit and passes no limit
-pub is_clear : {M : Type 0} (plain : PlainState) (prepared : Prepared M) (who : Who) (pages frames : ℕ) → MayAdd plain prepared
-    → prepared.wrote ≡ true → conflict prepared.mode prepared.reads prepared.snap plain.history ≡ None
+-- nothing bars a transaction that conflicts with no commit and passes no limit
+pub is_free : {M : Type 0} (plain : PlainState) (prepared : Prepared M) (pages frames : ℕ) → MayAdd plain prepared
+    → conflict prepared.mode prepared.reads prepared.snap plain.history ≡ None
     → pages ≡ length (newest_of plain) → frames ≡ length prepared.changed + 2
-    → pages * plain.page_size ≤ 2 ^ 30 → frames ≤ 4294967295 → IsClear (plain_seen plain) (submitted prepared who)
-is_clear plain prepared who pages frames may wrote none is_pages is_frames few short = record {
-  wrote = wrote;
-  running = refl;
+    → pages * plain.page_size ≤ database_limit → frames ≤ frame_limit → IsFree plain prepared
+is_free plain prepared pages frames may none is_pages is_frames few short = record {
   free = no_conflict prepared.mode prepared.reads prepared.snap plain.history none;
   fits = record {
-    pages = subst (λ (n : ℕ). n * plain.page_size ≤ 2 ^ 30) (is_pages ∙ sym (pages_are plain prepared may)) few;
-    frames = subst (λ (n : ℕ). n ≤ 4294967295) (is_frames ∙ sym (frames_are plain prepared may)) short;
+    pages = subst (λ (n : ℕ). n * plain.page_size ≤ database_limit) (is_pages ∙ sym (pages_are plain prepared may)) few;
+    frames = subst (λ (n : ℕ). n ≤ frame_limit) (is_frames ∙ sym (frames_are plain prepared may)) short;
   };
 }
 

@@ -1,27 +1,17 @@
 // Which page bars a commit.
 ghost use Rattle.std.specs.Prelude.{◌≡◌, ◌+◌, ◌<◌, ◌≤◌, ◌^◌, length, drop};
-ghost use Rattle.engine_spec.specs.History.{counts, first_writer, conflict, lesser};
+ghost use Rattle.engine_spec.specs.History.{first_writer, conflict, lesser};
 
-use engine_spec::{Commit, Mode};
-
-/// Whether the commit counts as having written the page, for a transaction of this mode.
-pub fn does_count(mode: Mode, page: u32, commit: &Commit) -> bool
-    ensures { result ≡ counts mode page commit.now }
-{
-    let is_written = commit.wrote.as_slice().contains(&page);
-    match mode {
-        Mode::Plain => is_written,
-        Mode::Concurrent => is_written && (commit.tail || page != 1),
-    }
-}
+use crate::made::Made;
+use engine_spec::Mode;
 
 /// The number of the first of these commits that wrote the page; `before` commits stand before them.
-pub fn first_writer_of(mode: Mode, page: u32, before: u64, commits: &[Commit]) -> Option<u64>
+pub fn first_writer_of(mode: Mode, page: u32, before: u64, commits: &[Made]) -> Option<u64>
     requires { before + length commits.now < 2 ^ 64 }
     ensures { result ≡ first_writer mode page before commits.now }
 {
     for (index, commit) in commits.iter().enumerate() {
-        if does_count(mode, page, commit) {
+        if commit.does_count(mode, page) {
             return Some(before + index as u64 + 1);
         }
     }
@@ -30,7 +20,7 @@ pub fn first_writer_of(mode: Mode, page: u32, before: u64, commits: &[Commit]) -
 
 /// The least page of these that a commit after the snapshot wrote, with the first such commit. It looks at each commit
 /// since the snapshot for each page.
-pub fn find_conflict(mode: Mode, reads: &[u32], snap: u64, history: &[Commit]) -> Option<(u32, u64)>
+pub fn find_conflict(mode: Mode, reads: &[u32], snap: u64, history: &[Made]) -> Option<(u32, u64)>
     requires { snap ≤ length history.now }
     ensures { result ≡ conflict mode reads.now snap history.now }
 {

@@ -1,15 +1,42 @@
 // Laying a change over a map.
-ghost use Rattle.std.specs.Prelude.{◌≡◌, ℕ, ◌+◌, ◌-◌, ◌<◌, ◌≤◌, ◌==◌, not, [], ◌∷◌, ◌++◌, length, drop, if◌then◌else◌, map, filter, IfOk, OnOk, All};
+ghost use Rattle.std.specs.Prelude.{◌≡◌, ℕ, ◌+◌, ◌-◌, ◌<◌, ◌≤◌, ◌==◌, ◌^◌, [], ◌∷◌, length, drop, if◌then◌else◌, map, IfOk, OnOk, All};
 ghost use Rattle.page_spec.specs.PageMap.{page_at};
-ghost use Rattle.engine_spec.specs.Change.{schema_fields, laid_first, laid_page, put_page, put_pages};
+ghost use Rattle.engine_spec.specs.Change.{schema_fields, laid_first, laid_page, put_page, put_pages, stamped, with_header};
+ghost use Rattle.engine_spec.specs.PageSet.{with_pages};
 
 use crate::shared_page::SharedPage;
+use be_fields::get_u32;
 use engine_spec::{Mode, PageImage};
+use page_face::ReadSet;
 use sqlite_items::Items;
 use std::alloc::{AllocError, Global};
 
-/// The map with each of the changed pages laid over it. It shares the others. The error is want of memory.
+/// The map with each of the changed pages laid over it, and page 1's header fields set. It shares the others. The error is want
+/// of memory.
 pub fn lay(
+    alloc: Global,
+    mode: Mode,
+    tail: bool,
+    pages: &[SharedPage],
+    changed: &[PageImage],
+    page_size: usize,
+) -> Result<Items<SharedPage>, AllocError>
+    requires some { 1 ≤ length pages.now }
+    requires few { length pages.now < 2 ^ 32 }
+    requires room { 512 ≤ page_size }
+    requires whole { All (λ page. length page ≡ page_size) pages.now }
+    requires images { All (λ image. length image.bytes ≡ page_size) changed.now }
+    requires in_range { All (λ image. (1 ≤ image.page) × (image.page ≤ length pages.now)) changed.now }
+    ensures { IfOk result (λ laid. laid ≡ with_header (put_pages mode tail pages.now changed.now)) }
+{
+    let mut laid = put_all(alloc, mode, tail, pages, changed, page_size)?;
+    let first = stamp(alloc, pages.len() as u32, laid.as_slice()[0].bytes())?;
+    laid.set(0, SharedPage::of(alloc, first)?);
+    Ok(laid)
+}
+
+// The map with each of the changed pages laid over it.
+fn put_all(
     alloc: Global,
     mode: Mode,
     tail: bool,
@@ -21,7 +48,9 @@ pub fn lay(
     requires whole { All (λ page. length page ≡ page_size) pages.now }
     requires images { All (λ image. length image.bytes ≡ page_size) changed.now }
     requires in_range { All (λ image. (1 ≤ image.page) × (image.page ≤ length pages.now)) changed.now }
-    ensures { IfOk result (λ laid. laid ≡ put_pages mode tail pages.now changed.now) }
+    ensures laid { IfOk result (λ laid. laid ≡ put_pages mode tail pages.now changed.now) }
+    ensures whole { IfOk result (λ laid. All (λ page. length page ≡ page_size) laid) }
+    ensures count { IfOk result (λ laid. length laid ≡ length pages.now) }
 {
     let mut laid = share_all(alloc, pages)?;
     for image in changed {
@@ -113,6 +142,21 @@ fn first_page_bytes(
     Ok(bytes)
 }
 
+// The bytes of page 1 of so many pages, with its header fields set.
+fn stamp(alloc: Global, size: u32, first: &[u8]) -> Result<Vec<u8>, AllocError>
+    requires { 100 ≤ length first.now }
+    ensures { IfOk result (λ bytes. bytes.items ≡ stamped size first.now) }
+{
+    let counter = get_u32(first, 24).wrapping_add(1).to_be_bytes();
+    let mut bytes = Vec::from_slice(alloc, &first[..24])?;
+    bytes.extend_from_slice(&counter)?;
+    bytes.extend_from_slice(&size.to_be_bytes())?;
+    bytes.extend_from_slice(&first[32..92])?;
+    bytes.extend_from_slice(&counter)?;
+    bytes.extend_from_slice(&first[96..])?;
+    Ok(bytes)
+}
+
 // The schema fields of page 1 after a change.
 fn schema_part<'a>(mode: Mode, old: &'a [u8], new: &'a [u8]) -> &'a [u8]
     requires old { 60 ≤ length old.now }
@@ -137,15 +181,13 @@ fn tree_part<'a>(tail: bool, old: &'a [u8], new: &'a [u8]) -> &'a [u8]
 }
 
 /// The pages that a commit of these changes writes: page 1, and the changed pages. The error is want of memory.
-pub fn written_pages(alloc: Global, changed: &[PageImage]) -> Result<Items<u32>, AllocError>
-    ensures { IfOk result (λ pages. pages ≡ 1 ∷ filter (λ page. not (page == 1)) (map (λ image. image.page) changed.now)) }
+pub fn written_pages(alloc: Global, changed: &[PageImage]) -> Result<ReadSet, AllocError>
+    ensures { IfOk result (λ pages. pages ≡ with_pages (1 ∷ []) (map (λ image. image.page) changed.now)) }
 {
-    let mut pages = Items::new(alloc);
-    pages.push(1)?;
+    let mut pages = ReadSet::new(alloc);
+    pages.add(1)?;
     for image in changed {
-        if image.page != 1 {
-            pages.push(image.page)?;
-        }
+        pages.add(image.page)?;
     }
     Ok(pages)
 }

@@ -3,6 +3,7 @@
 
 mod conflict;
 mod lay;
+mod made;
 mod plain;
 mod shared_page;
 

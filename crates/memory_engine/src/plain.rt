@@ -1,21 +1,27 @@
 // An engine that keeps each of its page maps in memory.
-ghost use Rattle.std.specs.Prelude.{◌≡◌, ℕ, ◌+◌, ◌^◌, ◌<◌, ◌≤◌, List, [], ◌∷◌, ◌++◌, length, IfOk, OnOk, OnErr, IfErr, IfSome, MatchOption, true, false, ◌*◌, ◌⊎◌, vec_len, All, Contains, map, MatchResult};
-ghost use Rattle.page_spec.specs.PageMap.{PageMap, page_at, page_size_of, page_sizes};
-ghost use Rattle.engine_spec.specs.Good.{HasSizes};
+//
+// Its invariant: there is one map more than commits, the first and the one after each; all have whole pages of one size; and each
+// commit leads from one map to the next.
+ghost use Rattle.std.specs.Prelude.{◌≡◌, ℕ, ◌+◌, ◌*◌, ◌^◌, ◌<◌, ◌≤◌, ◌⊎◌, true, false, List, [], ◌∷◌, ◌++◌, length, vec_len, All, Contains, IfOk, MatchOption};
 ghost use Rattle.std.specs.Vec.{vec_capacity};
+ghost use Rattle.page_spec.specs.Header.{database_limit};
+ghost use Rattle.page_spec.specs.PageMap.{PageMap, page_at, page_size_of, page_sizes};
 ghost use Rattle.engine_spec.specs.Change.{laid};
-ghost use Rattle.engine_spec.specs.Seen.{Found, Accepts, Refuses, IsClear};
-ghost use Rattle.page_face.specs.Pins.{IsLive, KeepsPins};
-ghost use Rattle.page_face.specs.Prepared.{submitted, change_in, IsFit, IsGood};
-ghost use Rattle.memory_engine.specs.Plain.{plain_seen, newest_of, usable_by, committed_state, MayAdd};
+ghost use Rattle.engine_spec.specs.TwoLogs.{frame_limit};
+ghost use Rattle.page_face.specs.Pins.{IsLive};
+ghost use Rattle.page_face.specs.Prepared.{change_in, IsFit};
+ghost use Rattle.page_face.specs.Calls.{HasCommitted};
+ghost use Rattle.memory_engine.specs.Plain.{newest_of, usable_by, MayAdd, Bars, IsFree, Adds};
 
 use crate::conflict::find_conflict;
 use crate::lay::{lay, written_pages};
+use crate::made::Made;
 use crate::shared_page::SharedPage;
 use disk_face::{Bytes, Failed};
-use engine_spec::{Commit, Entry};
+use engine_spec::Entry;
 use page_face::{
-    Ckpt, CommitFault, Engine, FetchFault, Lock, Logs, Means, Pin, Prepared, Receipt, Who,
+    Ckpt, CommitFault, Engine, EngineTells, FetchFault, Lock, Logs, Means, Pin, Prepared, Receipt,
+    Who,
 };
 use sqlite_items::Items;
 use std::alloc::{AllocError, Global};
@@ -29,7 +35,7 @@ pub struct Plain<M> {
     page_size: usize,
     usable: usize,
     maps: Vec<Items<SharedPage>>,
-    history: Vec<Commit>,
+    history: Vec<Made>,
     of: PhantomData<M>,
 }
 
@@ -77,45 +83,10 @@ impl<M: Means> Plain<M> {
 }
 
 impl<M: Means> Plain<M> {
-    ghost use Rattle.std.specs.Prelude.{slice_get};
-    ghost use Rattle.memory_engine.specs.Plain.{PlainLive, PlainRuns};
-
-    /// Commits a transaction of a pin that holds, or says why not and hands the transaction back as it was.
-    ///
-    /// Unlike [`Engine::commit`] it asks nothing of what the change means: a run goes on where the change is good for it.
-    /// So an engine over this one may call it after others committed, whose runs it need not know.
-    pub fn hand_in(
-        &mut self,
-        pin: &Pin,
-        prepared: Prepared<M>,
-        who: Who,
-    ) -> Result<Receipt, (CommitFault, Prepared<M>)>
-        requires live { IsLive PlainLive self.old pin.now }
-        requires fit { IsFit (plain_seen self.old) pin.now prepared }
-        ensures answer { MatchResult result
-            (λ receipt. Accepts (plain_seen self.old) (submitted prepared who) receipt (plain_seen self.new))
-            (λ refusal. (refusal.1 ≡ prepared) × Refuses (plain_seen self.old) (submitted prepared who) refusal.0 (plain_seen self.new)) }
-        ensures pins { KeepsPins PlainLive (λ plain pin. slice_get plain.maps pin.n) self.old self.new }
-        ensures runs { (first : PageMap) → PlainRuns (M.sound first) (M.leads first) first self.old
-            → IfSome (slice_get self.old.maps pin.now.n) (λ snapshot. IsGood (M.sound first) (M.leads first) snapshot prepared)
-            → PlainRuns (M.sound first) (M.leads first) first self.new }
-    {
-        let _ = pin;
-        if !prepared.wrote {
-            return Ok(Receipt::ReadOnly(prepared.snap));
-        }
-        match self.bar(&prepared, who) {
-            Some(fault) => Err((fault, prepared)),
-            None => self.add(prepared, who),
-        }
-    }
-
     // What bars a transaction that wrote from being committed.
-    fn bar(&self, prepared: &Prepared<M>, who: Who) -> Option<CommitFault>
-        requires wrote { prepared.now.wrote ≡ true }
+    fn bar(&self, prepared: &Prepared<M>) -> Option<CommitFault>
         requires add { MayAdd self.now prepared.now }
-        ensures { MatchOption result (IsClear (plain_seen self.now) (submitted prepared.now who))
-            (λ fault. Refuses (plain_seen self.now) (submitted prepared.now who) fault (plain_seen self.now)) }
+        ensures { MatchOption result (IsFree self.now prepared.now) (λ fault. Bars self.now prepared.now fault) }
     {
         let found = find_conflict(
             prepared.mode,
@@ -141,9 +112,7 @@ impl<M: Means> Plain<M> {
         who: Who,
     ) -> Result<Receipt, (CommitFault, Prepared<M>)>
         requires add { MayAdd self.old prepared }
-        ensures ok { IfOk result (λ receipt. (receipt ≡ Receipt.At (length self.old.history + 1))
-            × (self.new ≡ committed_state self.old (submitted prepared who))) }
-        ensures err { IfErr result (λ refusal. (refusal.0 ≡ CommitFault.Memory) × (refusal.1 ≡ prepared) × (self.new ≡ self.old)) }
+        ensures { Adds self.old prepared who result self.new }
     {
         let number = self.history.len() as u64 + 1;
         let pages = match self.laid(&prepared) {
@@ -166,7 +135,7 @@ impl<M: Means> Plain<M> {
         push_reserved(&mut self.maps, pages);
         push_reserved(
             &mut self.history,
-            Commit {
+            Made {
                 entry,
                 wrote,
                 tail: prepared.tail,
@@ -202,8 +171,8 @@ const MOST_FRAMES: u64 = 4_294_967_295;
 fn is_over(pages: u64, page_size: u64, frames: u64) -> bool
     requires few { pages < 2 ^ 32 }
     requires small { page_size ≤ 65536 }
-    ensures over { result ≡ true → (2 ^ 30 < pages * page_size) ⊎ (4294967295 < frames) }
-    ensures within { result ≡ false → (pages * page_size ≤ 2 ^ 30) × (frames ≤ 4294967295) }
+    ensures over { result ≡ true → (database_limit < pages * page_size) ⊎ (frame_limit < frames) }
+    ensures within { result ≡ false → (pages * page_size ≤ database_limit) × (frames ≤ frame_limit) }
 {
     pages * page_size > MOST_BYTES || frames > MOST_FRAMES
 }
@@ -250,28 +219,26 @@ fn shared_pages(alloc: Global, pages: &[Bytes]) -> Result<Items<SharedPage>, All
     Ok(shared)
 }
 
-impl<M: Means> Engine<M> for Plain<M> {
-    ghost use Rattle.memory_engine.specs.Plain.{PlainRuns, plain_seen, PlainLive};
-    ghost use Rattle.memory_engine.specs.PlainLaws.{newest_has_sizes, pinned_has_sizes, plain_tells, plain_bounds, plain_run};
-    ghost use Rattle.std.specs.Prelude.{slice_get};
+impl<M: Means> EngineTells<M> for Plain<M> {
+    ghost use Rattle.std.specs.Prelude.{[], slice_get};
+    ghost use Rattle.memory_engine.specs.Plain.{PlainRuns, state_of, PlainLive};
+    ghost use Rattle.memory_engine.specs.PlainLaws.{newest_has_sizes, pinned_has_sizes, plain_tells, plain_bounds, plain_own, plain_legal, plain_logs, plain_run};
 
-    ghost seen = { plain_seen };
+    ghost state = { state_of };
 
     ghost live = { PlainLive };
 
     ghost map_at = { λ plain pin. slice_get plain.maps pin.n };
 
-    ghost begins = { λ plain first. PlainRuns (M.sound first) (M.leads first) first plain };
+    ghost stands_from = { λ plain first. PlainRuns (M.sound first) (M.leads first) first plain };
+
+    ghost opened = { λ plain opening. Unit {0} };
 
     ghost may_begin = { λ plain. Unit {0} };
 
-    ghost free = { λ plain. Unit {0} };
-
-    ghost alone = { λ plain. Unit {0} };
-
     ghost loans = { λ plain. [] };
 
-    ghost newest_sizes = { λ plain first pages runs told. newest_has_sizes plain pages runs.whole told };
+    ghost newest_sizes = { λ plain pins pages live told. newest_has_sizes plain pages live.0 told };
 
     ghost pinned_sizes = { pinned_has_sizes };
 
@@ -279,10 +246,20 @@ impl<M: Means> Engine<M> for Plain<M> {
 
     ghost bounds = { plain_bounds };
 
+    ghost own_there = { λ plain pins number live there. plain_own plain number there };
+
+    ghost legal = { plain_legal };
+
+    ghost are_logs = { plain_logs };
+
     ghost run = { λ plain first runs. plain_run (M.sound first) (M.leads first) first plain runs };
 
-    ghost free_begins = { λ plain free. free };
+    ghost begins_now = { λ plain always. tt };
 
+    ghost recovers = { λ plain opening opened. tt };
+}
+
+impl<M: Means> Engine<M> for Plain<M> {
     fn page_size(&self) -> usize {
         self.page_size
     }
@@ -314,24 +291,18 @@ impl<M: Means> Engine<M> for Plain<M> {
         prepared: Prepared<M>,
         who: Who,
     ) -> Result<Receipt, (CommitFault, Prepared<M>)>
-        requires live { IsLive ⟦<Plain<M> as Engine<M>>⟧.live self.old pin.now }
-        requires fit { IsFit (⟦<Plain<M> as Engine<M>>⟧.seen self.old) pin.now prepared }
-        requires good { (first : PageMap) → ⟦<Plain<M> as Engine<M>>⟧.begins self.old first
-            → IfSome (⟦<Plain<M> as Engine<M>>⟧.map_at self.old pin.now) (λ snapshot. IsGood (M.sound first) (M.leads first) snapshot prepared) }
-        ensures answer { MatchResult result
-            (λ receipt. Found (⟦<Plain<M> as Engine<M>>⟧.alone self.old) (⟦<Plain<M> as Engine<M>>⟧.free self.old) (⟦<Plain<M> as Engine<M>>⟧.seen self.old)
-            (λ mid. Accepts mid (submitted prepared who) receipt (⟦<Plain<M> as Engine<M>>⟧.seen self.new)))
-            (λ refusal. (refusal.1 ≡ prepared)
-            × Found (⟦<Plain<M> as Engine<M>>⟧.alone self.old) (⟦<Plain<M> as Engine<M>>⟧.free self.old) (⟦<Plain<M> as Engine<M>>⟧.seen self.old)
-            (λ mid. Refuses mid (submitted prepared who) refusal.0 (⟦<Plain<M> as Engine<M>>⟧.seen self.new))) }
-        ensures pins { KeepsPins ⟦<Plain<M> as Engine<M>>⟧.live ⟦<Plain<M> as Engine<M>>⟧.map_at self.old self.new }
-        ensures runs { (first : PageMap) → ⟦<Plain<M> as Engine<M>>⟧.begins self.old first → ⟦<Plain<M> as Engine<M>>⟧.begins self.new first }
-        ensures may_begin { ⟦<Plain<M> as Engine<M>>⟧.may_begin self.old → ⟦<Plain<M> as Engine<M>>⟧.may_begin self.new }
-        ensures free { ⟦<Plain<M> as Engine<M>>⟧.free self.old → ⟦<Plain<M> as Engine<M>>⟧.free self.new }
-        ensures alone { ⟦<Plain<M> as Engine<M>>⟧.alone self.old → ⟦<Plain<M> as Engine<M>>⟧.alone self.new }
-        ensures loans { ⟦<Plain<M> as Engine<M>>⟧.loans self.new ≡ ⟦<Plain<M> as Engine<M>>⟧.loans self.old }
+        requires live { IsLive ⟦<Plain<M> as EngineTells<M>>⟧.live self.old pin.now }
+        requires fit { IsFit (⟦<Plain<M> as EngineTells<M>>⟧.state self.old) pin.now prepared }
+        ensures { HasCommitted M.Means ⟦<Plain<M> as EngineTells<M>>⟧ self.old pin.now prepared who result self.new }
     {
-        self.hand_in(pin, prepared, who)
+        let _ = pin;
+        if !prepared.wrote {
+            return Ok(Receipt::ReadOnly(prepared.snap));
+        }
+        match self.bar(&prepared) {
+            Some(fault) => Err((fault, prepared)),
+            None => self.add(prepared, who),
+        }
     }
 
     fn ckpt(&mut self) -> Result<Ckpt, Failed> {

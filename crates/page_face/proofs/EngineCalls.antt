@@ -1,13 +1,11 @@
 -- Calls of an engine that nothing changed, and two calls in a row.
-use Rattle.std.proofs.Common.{◌≡◌, ◌∙◌, refl, false, true, List, Result, Ok, Err}
-use Rattle.std.specs.Prelude.{ℕ, IfSome, IfOk, IfErr, MatchResult}
-use Rattle.page_spec.specs.PageMap.{PageMap}
+use Rattle.std.proofs.Common.{◌≡◌, ◌∙◌, refl, false, Result, Ok, Err}
+use Rattle.std.specs.Prelude.{IfOk, IfErr, MatchResult}
 use Rattle.engine_spec.specs.declared.pins.Pin.{Pin}
 use Rattle.engine_spec.specs.declared.commits.Who.{Who}
 use Rattle.engine_spec.specs.declared.commits.Receipt.{Receipt}
-use Rattle.engine_spec.specs.declared.commits.Receipt.TheVariants.{At, ReadOnly}
+use Rattle.engine_spec.specs.declared.commits.Receipt.TheVariants.{ReadOnly}
 use Rattle.engine_spec.specs.declared.commits.CommitFault.{CommitFault}
-use Rattle.engine_spec.specs.State.{EngineState, During}
 use Rattle.engine_spec.specs.Events.{AcceptsCommit, RefusesCommit}
 use Rattle.engine_spec.proofs.Here.{during_here}
 use Rattle.page_face.specs.declared.prepared.Prepared.{Prepared}
@@ -15,7 +13,7 @@ use Rattle.page_face.specs.declared.means.Means.{Ghosts as Meaning}
 use Rattle.page_face.specs.declared.engine_tells.EngineTells.{Ghosts}
 use Rattle.page_face.specs.Pins.{IsLive}
 use Rattle.page_face.specs.Prepared.{submitted, IsHandedBack}
-use Rattle.page_face.specs.Calls.{Stays, KeepsOpenings, HasCommitted, CommitAnswers, IsLaidOnEach, IsLaidOn, StandsForSome}
+use Rattle.page_face.specs.Calls.{Stays, HasCommitted, CommitAnswers, IsLaidOnEach, StandsForSome}
 
 module _ {E M : Type 0} (told : Ghosts E M) where
   -- an engine stays as it is

@@ -1,5 +1,5 @@
 -- Calls on pages that nothing changed, and two calls in a row.
-use Rattle.std.proofs.Common.{◌≡◌, ◌∙◌, ℕ, ◌≤◌, refl, arith, true, sym}
+use Rattle.std.proofs.Common.{◌∙◌, refl, arith}
 use Rattle.page_spec.specs.View.{View}
 use Rattle.page_face.specs.declared.pages_tells.PagesTells.{Ghosts}
 use Rattle.page_face.specs.Pages.{KeepsFree, KeepsPages, Editing, Reading}

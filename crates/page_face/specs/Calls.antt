@@ -19,7 +19,7 @@ use Rattle.engine_spec.specs.Good.{MayLayOn}
 use Rattle.page_face.specs.declared.means.Means.{Ghosts as Meaning}
 use Rattle.page_face.specs.declared.engine_tells.EngineTells.{Ghosts}
 use Rattle.page_face.specs.declared.prepared.Prepared.{Prepared}
-use Rattle.page_face.specs.Pins.{IsLive, KeepsPins, AddsPin, TakesPin}
+use Rattle.page_face.specs.Pins.{KeepsPins, AddsPin, TakesPin}
 use Rattle.page_face.specs.Prepared.{submitted, IsGood, IsHandedBack}
 
 -- the engine is whole, whatever pins hold in it

@@ -1,6 +1,6 @@
 -- What is left of pages, over one world that the caller may be reading, and whatever the world. The records take all that the pages
 -- tell as one value.
-use Rattle.std.specs.Prelude.{◌≡◌, ◌≢◌, ◌⊎◌, ℕ, ◌+◌, ◌*◌, ◌<◌, ◌≤◌, ◌==◌, ◌||◌, Bool, true, if◌then◌else◌, List, Contains}
+use Rattle.std.specs.Prelude.{◌≡◌, ◌≢◌, ◌⊎◌, ℕ, ◌+◌, ◌*◌, ◌<◌, ◌≤◌, true, if◌then◌else◌, List, Contains}
 use Rattle.disk_face.specs.Faults.{Rose}
 use Rattle.page_spec.specs.Header.{database_limit}
 use Rattle.page_spec.specs.View.{View, view_with, freelist_fields, but_freelist}

@@ -1,5 +1,6 @@
 // The pages that a transaction read.
-ghost use Rattle.std.specs.Prelude.{◌≡◌, [], OnOk, OnErr};
+ghost use Rattle.std.specs.Prelude.{◌≡◌, ◌==◌, [], OnOk, OnErr};
+ghost use Rattle.std.specs.List.{list_any};
 ghost use Rattle.engine_spec.specs.PageSet.{with_page};
 
 use std::alloc::{AllocError, Global};
@@ -44,6 +45,13 @@ impl ReadSet {
                 Ok(())
             }
         }
+    }
+
+    /// Whether the page is in the set.
+    pub fn has(&self, page: u32) -> bool
+        ensures { result ≡ list_any (λ p. p == page) self.now }
+    {
+        self.items.binary_search(&page).is_ok()
     }
 
     /// The pages in rising order.

@@ -1,6 +1,9 @@
-use Rattle.std.proofs.Common.{◌≡◌, ◌∷◌, take, map, filter, not, nat_eq}
+use Rattle.std.proofs.Common.{◌≡◌, [], ◌∷◌, drop, map}
+use Rattle.engine_spec.specs.PageSet.{with_pages}
 use Rattle.memory_engine.proofs.lay.written_pages.Given as goal
 
+-- adding the pages that are left gives what adding all of them to page 1 does
 abbrev pub invariant-loop-image : goal.invariant-loop-image
 invariant-loop-image l =
-    l.pages ≡ 1 ∷ filter (λ page. not (nat_eq page 1)) (map (λ image. image.page) (take l.image-index l.changed))
+    with_pages l.pages (map (λ image. image.page) (drop l.image-index l.changed))
+    ≡ with_pages (1 ∷ []) (map (λ image. image.page) l.changed)

@@ -1,5 +1,6 @@
-use Rattle.std.proofs.Common.{◌∙◌, ap, List, ◌∷◌, filter, map, not, nat_eq}
+use Rattle.std.proofs.Common.{◌∙◌, ap, List, [], ◌∷◌, map}
 use Rattle.engine_spec.specs.declared.commits.PageImage.{PageImage}
+use Rattle.engine_spec.specs.PageSet.{with_pages}
 use Rattle.memory_engine.specs.Plain.{PlainState}
 use Rattle.memory_engine.proofs.PlainCommits.{plain_pushed}
 use Rattle.memory_engine.proofs.plain.Plain.add.Goals as goal
@@ -13,6 +14,6 @@ invariant_of-self-2 g c =
     (c.reserve.ensures.items ∙ ap (λ (s : PlainState). s.maps) c.self.view_is)
     (c.reserve-else-is_err.ensures.items ∙ ap (λ (s : PlainState). s.history) c.self.view_is)
     c.in-Ok.ensures
-    (c.in-Ok-written_pages.ensures ∙ ap (λ (images : List PageImage). 1 ∷ filter (λ page. not (nat_eq page 1)) (map (λ image. image.page) images)) c.as_slice.ensures)
+    (c.in-Ok-written_pages.ensures ∙ ap (λ (images : List PageImage). with_pages (1 ∷ []) (map (λ image. image.page) images)) c.as_slice.ensures)
     c.push_reserved.ensures
     c.push_reserved-2.ensures

@@ -1,9 +1,11 @@
-use Rattle.std.proofs.Common.{◌≡◌, ◌∙◌, ℕ, ◌+◌, ◌*◌, ◌^◌, ◌≤◌, length, refl, sym, ap, subst, inl, inr, arith, get_or, Some, None}
+use Rattle.std.proofs.Common.{◌≡◌, ◌∙◌, ℕ, ◌+◌, ◌*◌, ◌≤◌, length, refl, sym, ap, subst, inl, inr, arith, get_or, Some, None}
+use Rattle.page_spec.specs.Header.{database_limit}
+use Rattle.engine_spec.specs.TwoLogs.{frame_limit}
 use Rattle.engine_spec.specs.History.{conflict}
 use Rattle.engine_spec.proofs.Conflicts.{no_conflict, is_conflict}
 use Rattle.memory_engine.specs.Plain.{PlainState, newest_of}
 use Rattle.memory_engine.proofs.PlainPins.{newest_is}
-use Rattle.memory_engine.proofs.PlainCommits.{is_clear, pages_are, frames_are}
+use Rattle.memory_engine.proofs.PlainCommits.{is_free, pages_are, frames_are}
 use Rattle.memory_engine.proofs.plain.Plain.bar.Goals as goal
 
 pub returns-in-Some : goal.returns-in-Some
@@ -11,13 +13,9 @@ returns-in-Some g c =
     let history = ap (λ (s : PlainState). s.history) c.self.view_is in
     let found : conflict c.args.prepared.now.mode c.args.prepared.now.reads c.args.prepared.now.snap c.args.self.now.history
     ≡ Some (c.in-Some.page, c.in-Some.commit) =
-    cc (c.find_conflict-found.ensures, c.in-Some.is, c.pages.ensures, c.as_slice.ensures.value, history) in (
-      c.requires.wrote,
-      refl,
-      is_conflict c.args.prepared.now.mode c.args.prepared.now.reads c.args.prepared.now.snap c.args.self.now.history
-          c.in-Some.page c.in-Some.commit found,
-      refl,
-    )
+    cc (c.find_conflict-found.ensures, c.in-Some.is, c.pages.ensures, c.as_slice.ensures.value, history) in
+    is_conflict c.args.prepared.now.mode c.args.prepared.now.reads c.args.prepared.now.snap c.args.self.now.history
+    c.in-Some.page c.in-Some.commit found
 
 pub returns-then-is_over : goal.returns-then-is_over
 returns-then-is_over g c =
@@ -34,8 +32,6 @@ returns-then-is_over g c =
     let are = pages_are c.args.self.now c.args.prepared.now c.requires.add in
     let frames = frames_are c.args.self.now c.args.prepared.now c.requires.add in
     let count : length c.as_slice-2.result.now ≡ length c.args.prepared.now.changed = ap length c.as_slice-2.ensures in (
-      c.requires.wrote,
-      refl,
       no_conflict c.args.prepared.now.mode c.args.prepared.now.reads c.args.prepared.now.snap c.args.self.now.history none,
       elim (c.if-is_over.ensures.over refl) [
         | inl large ↦ inl (rw are (rw (← pages, ← size) large))
@@ -43,7 +39,6 @@ returns-then-is_over g c =
       ],
       pages ∙ sym are,
       omega (arith, count, frames),
-      refl,
     )
 
 pub returns : goal.returns
@@ -60,8 +55,8 @@ returns g c =
     let size : c.self.inside.page_size ≡ c.args.self.now.page_size = ap (λ (s : PlainState). s.page_size) c.self.view_is in
     let count : length c.as_slice-2.result.now + 2 ≡ length c.args.prepared.now.changed + 2 =
     omega (arith, ap length c.as_slice-2.ensures) in
-    let within : (c.len-pages.result * c.self.inside.page_size ≤ 2 ^ 30) × (length c.as_slice-2.result.now + 2 ≤ 4294967295) =
+    let within : (c.len-pages.result * c.self.inside.page_size ≤ database_limit) × (length c.as_slice-2.result.now + 2 ≤ frame_limit) =
     c.if-is_over.ensures.within refl in
-    is_clear c.args.self.now c.args.prepared.now c.args.who c.len-pages.result (length c.as_slice-2.result.now + 2) c.requires.add
-    c.requires.wrote none pages count
-    (subst (λ (s : ℕ). c.len-pages.result * s ≤ 2 ^ 30) size within.0) within.1
+    is_free c.args.self.now c.args.prepared.now c.len-pages.result (length c.as_slice-2.result.now + 2) c.requires.add
+    none pages count
+    (subst (λ (s : ℕ). c.len-pages.result * s ≤ database_limit) size within.0) within.1

@@ -1,6 +1,6 @@
 use Rattle.std.proofs.Common.{◌≡◌, drop, length, All}
 use Rattle.engine_spec.specs.Change.{put_pages}
-use Rattle.memory_engine.proofs.lay.lay.Given as goal
+use Rattle.memory_engine.proofs.lay.put_all.Given as goal
 
 -- laying the images that are left gives what laying all of them on the first map does; the pages stay whole, and so many
 abbrev pub invariant-loop-image : goal.invariant-loop-image

@@ -1,2 +1,0 @@
-mod Shelves
-mod SharedMoves
