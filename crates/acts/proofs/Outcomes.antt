@@ -29,6 +29,7 @@ use Rattle.page_face.specs.declared.prepared.Prepared.{Prepared}
 use Rattle.page_face.specs.Prepared.{IsGood}
 use Rattle.page_face.specs.declared.engine_tells.EngineTells.{Ghosts}
 use Rattle.page_face.specs.Calls.{Stays, HasBegun, HasEnded, CommitKeepsRuns}
+use Rattle.engine_spec.proofs.Here.{during_here}
 use Rattle.engine_spec.proofs.Laying.{page_at-length}
 use Rattle.page_lines.proofs.GoodLines.{good_lines}
 use Rattle.page_lines.proofs.Transactions.{with_image-are, fills_read, fills_write, texts-push}
@@ -372,3 +373,7 @@ done_acts engine session ordinal old new receipt done fresh freed none none_free
       ),
       moves.put ∙ ap (λ (state : State). with_state before session state) out,
     )
+
+-- An engine that tells what it told changed at no moment of the call.
+pub still : (old new : EngineState) → new ≡ old → During old (λ mid. new ≡ mid)
+still old new same = during_here old (λ mid. new ≡ mid) same

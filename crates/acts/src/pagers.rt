@@ -1,5 +1,5 @@
 // The sessions of page lines.
-ghost use Rattle.std.specs.Prelude.{◌≡◌, ◌≤◌, ◌<◌, ◌==◌, position, List, [], ◌++◌, Contains, IfOk, OnErr, Option};
+ghost use Rattle.std.specs.Prelude.{true, ◌≡◌, ◌≤◌, ◌<◌, ◌==◌, position, List, [], ◌++◌, Contains, IfOk, OnErr, Option};
 ghost use Rattle.page_spec.specs.PageMap.{PageMap};
 ghost use Rattle.page_lines.specs.declared.lines.Act.TheVariants as act;
 ghost use Rattle.engine_spec.specs.declared.pins.Pin.{Pin};
@@ -100,6 +100,7 @@ fn end_all<E: Engine<Raw>>(seats: &[Seat], engine: &mut E)
 }
 
 // An act over the list of seats.
+#[tactic(auto, using(crate::proofs::Outcomes::still))]
 fn act_on<E: Engine<Raw>>(
     alloc: Global,
     seats: &mut Vec<Seat>,
@@ -158,6 +159,7 @@ fn place_of(seats: &[Seat], session: u32) -> Option<usize>
 }
 
 // Does what is asked of a session's transaction.
+#[tactic(auto, using(crate::proofs::Outcomes::still))]
 fn in_seat<E: Engine<Raw>>(
     alloc: Global,
     seats: &mut Vec<Seat>,
@@ -191,6 +193,7 @@ fn begin<E: Engine<Raw>>(
     requires always { (E.state engine.old).always_begins ≡ true }
     requires pages { 16 ≤ (E.state engine.old).size }
     requires sound { AreSound (E.state engine.old).page_size seats.old.items }
+    requires live { (others : List Pin) × E.live engine.old (pins_of seats.old.items ++ others) }
     ensures acts { IfOk result (λ told. Acts (between E.EngineTells engine.old engine.new) seats.old.items (act.Begin session) told seats.new.items) }
     ensures want { OnErr result (seats.new.items ≡ seats.old.items) }
     ensures wanting { OnErr result (E.state engine.new ≡ E.state engine.old) }

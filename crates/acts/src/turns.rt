@@ -59,6 +59,7 @@ fn make_room(buf: &mut Vec<u8>, size: usize) -> Result<(), AllocError>
 }
 
 // The first byte of a page of the pin's map, or none where the disk failed. The error is want of memory.
+#[tactic(auto, using(crate::proofs::Outcomes::still))]
 fn first_byte<E: Engine<Raw>>(
     buf: &mut Vec<u8>,
     engine: &mut E,
@@ -82,6 +83,7 @@ fn first_byte<E: Engine<Raw>>(
 }
 
 // Reads a page of the snapshot. The error is want of memory, and leaves the transaction as it was.
+#[tactic(auto, using(crate::proofs::Outcomes::still))]
 fn fetch_open<E: Engine<Raw>>(
     alloc: Global,
     buf: &mut Vec<u8>,
@@ -111,6 +113,7 @@ fn fetch_open<E: Engine<Raw>>(
 }
 
 // Reads a page. The error is want of memory, and leaves the transaction as it was.
+#[tactic(auto, using(crate::proofs::Outcomes::still))]
 fn read_open<E: Engine<Raw>>(
     alloc: Global,
     buf: &mut Vec<u8>,
@@ -142,6 +145,7 @@ fn read_open<E: Engine<Raw>>(
 }
 
 // Commits a transaction. The error is want of memory, and leaves it as it was.
+#[tactic(auto, using(crate::proofs::Outcomes::still))]
 fn commit_open<E: Engine<Raw>>(
     alloc: Global,
     engine: &mut E,
@@ -222,6 +226,7 @@ fn back(pin: Pin, prepared: Prepared<Raw>) -> State
 }
 
 // Does what is asked of an open transaction. The error is want of memory, and leaves it as it was.
+#[tactic(auto, using(crate::proofs::Outcomes::still))]
 fn turn_open<E: Engine<Raw>>(
     alloc: Global,
     buf: &mut Vec<u8>,
@@ -279,6 +284,7 @@ fn turn_refused<E: Engine<Raw>>(engine: &mut E, pin: Pin, session: u32, deed: De
 }
 
 /// Does what is asked of a session's transaction. The error is want of memory, and leaves the seat as it was.
+#[tactic(auto, using(crate::proofs::Outcomes::still))]
 pub fn turn<E: Engine<Raw>>(
     alloc: Global,
     buf: &mut Vec<u8>,

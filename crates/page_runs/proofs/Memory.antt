@@ -5,13 +5,16 @@ use Rattle.page_spec.specs.PageMap.{PageMap, page_size_of}
 use Rattle.engine_spec.specs.declared.pins.Pin.{Pin}
 use Rattle.page_lines.specs.declared.lines.Act.{Act}
 use Rattle.page_lines.specs.declared.lines.Told.{Told}
-use Rattle.engine_spec.specs.Seen.{Found, OnlyFaults}
+use Rattle.engine_spec.specs.State.{During}
 use Rattle.page_lines.specs.World.{World, step, world_over}
 use Rattle.page_lines.proofs.Alone.{IsStore}
 use Rattle.acts.specs.declared.seats.Seat.{Seat}
 use Rattle.acts.specs.Pagers.{Between, Acts, AreSound, pins_of}
-use Rattle.memory_engine.specs.Plain.{PlainState, IsPlain, PlainLive, newest_of, plain_seen}
+use Rattle.memory_engine.specs.Plain.{PlainState, IsPlain, PlainLive, newest_of, state_of}
 use Rattle.page_runs.specs.InMemory.{Memory, IsAt}
+use Rattle.page_lines.specs.PageLines.{IsPageStore}
+use Rattle.acts.specs.Playing.{RestsAt}
+use Rattle.acts.proofs.Answered.{rests_over}
 use Rattle.acts.proofs.Telling.{never_rose}
 use Rattle.acts.proofs.Standing.{Stands, stay, tells_quiet}
 use Rattle.acts.proofs.StandingActs.{acts_stand}
@@ -19,10 +22,9 @@ use Rattle.acts.proofs.StandingActs.{acts_stand}
 -- the engine in memory before and after something
 abbrev pub plain_between : PlainState → PlainState → Between
 plain_between before after = record {
-  alone = Unit {0};
-  free = Unit {0};
-  old = plain_seen before;
-  new = plain_seen after;
+  opened = λ opening. Unit {0};
+  old = state_of before;
+  new = state_of after;
   map_before = λ pin. slice_get before.maps pin.n;
   map_after = λ pin. slice_get after.maps pin.n;
 }
@@ -42,14 +44,14 @@ pub live_alone : (memory : Memory) (world : World) → IsAt memory world → Pla
 live_alone memory world at = subst (PlainLive memory.plain) (sym (append-nil (pins_of memory.seats))) at.live
 
 -- the pages that the next act asks for
-pub pages_enough : (memory : Memory) (world : World) → IsAt memory world → 16 ≤ (plain_seen memory.plain).size
+pub pages_enough : (memory : Memory) (world : World) → IsAt memory world → 16 ≤ (state_of memory.plain).size
 pages_enough memory world at = (let size = at.stands.tells.size in omega arith)
 
 -- what an act finds
 finds : (before after : PlainState) (seats next : List Seat) (world : World) → IsAt (record { plain = before; seats = seats }) world
     → KeepsMaps before after seats next → Stands (plain_between before after) seats next world
 finds before after seats next world at maps = record {
-  alone = tt;
+  alone = refl;
   stands = at.stands;
   sound = at.sound;
   quiet = never_rose 0 0 refl refl;
@@ -76,7 +78,7 @@ memory_acts before after seats next world one told at acts maps live sound =
 
 -- want of memory leads nowhere
 pub memory_wants : (before after : PlainState) (seats next : List Seat) (world : World) → IsAt (record { plain = before; seats = seats }) world
-    → next ≡ seats → Found (Unit {0}) (Unit {0}) (plain_seen before) (λ mid. OnlyFaults mid (plain_seen after))
+    → next ≡ seats → During (state_of before) (λ mid. state_of after ≡ mid)
     → KeepsMaps before after seats next → KeepsLive before after seats next → AreSound after.page_size next
     → IsAt (record { plain = after; seats = next }) world
 memory_wants before after seats next world at same found maps live sound =
@@ -110,3 +112,11 @@ memory_starts plain seats pages size store whole maps history page_size none =
       sound = λ k d within. absurd (omega arith);
       live = (whole, λ k d within. absurd (omega arith));
     })
+
+-- So does a new engine in memory.
+pub plain_rests : (plain : PlainState) (pages : PageMap) → plain.maps ≡ pages ∷ [] → plain.history ≡ []
+    → plain.page_size ≡ page_size_of pages → IsPageStore pages → RestsAt (state_of plain) (world_over pages)
+plain_rests plain pages maps history page_size store =
+    let newest : newest_of plain ≡ pages = rw (maps, history) refl in
+    rests_over (state_of plain) pages pages history (ap Some newest) (ap length newest ∙ store.count) page_size refl store store
+    (λ page low high. refl)

@@ -1,4 +1,6 @@
-use Rattle.std.proofs.Common.{◌∙◌, ap, refl}
+use Rattle.std.proofs.Common.{◌∙◌, ap, refl, false}
+use Rattle.engine_spec.specs.declared.commits.Mode.TheVariants.{Concurrent}
+use Rattle.page_lines.specs.contracts.raw.RawMeans.TheImpl.{ghosts}
 use Rattle.page_face.specs.declared.prepared.Prepared.{Prepared}
 use Rattle.page_lines.specs.declared.raw.Raw.{Raw}
 use Rattle.acts.specs.declared.seats.Transaction.{Transaction}
@@ -16,12 +18,25 @@ returns-in-Ok-clause-acts g c = λ before after moves.
 pub returns-in-Ok-clause-stays : goal.returns-in-Ok-clause-stays
 returns-in-Ok-clause-stays g c =
     let answer = c.in-Ok.ensures.answer in
+    let prepared : Prepared Raw = record {
+      mode = Concurrent;
+      snap = c.args.transaction.pin.n;
+      base = c.args.transaction.pin.size;
+      reads = c.args.transaction.reads;
+      changed = c.args.transaction.changed;
+      fresh = c.new.result;
+      freed = c.new-2.result;
+      tail = false;
+      wrote = c.args.transaction.wrote;
+      said = c.args.transaction.said;
+      of = record {};
+    } in
     done_stays g.E.EngineTells c.args.engine.now c.commit.new.self c.end.new.self _ c.in-Ok.receipt c.args.transaction.pin
     c.in-Ok.ensures.stays c.end.ensures
-    (commit_runs _ g.E.EngineTells c.args.engine.now c.args.transaction.pin _ c.in-Ok.receipt c.commit.new.self
+    (commit_runs ghosts g.E.EngineTells c.args.engine.now c.args.transaction.pin prepared c.in-Ok.receipt c.commit.new.self
     (λ first stands. some_by (g.E.EngineTells.map_at c.args.engine.now c.args.transaction.pin) _
     (λ snapshot is. good snapshot c.args.transaction (g.E.EngineTells.state c.args.engine.now).page_size c.new.result c.new-2.result c.new.ensures
-    (g.met.E.EngineTells.pinned_sizes c.args.engine.now c.args.transaction.pin snapshot c.requires.live is) c.requires.sound))
+    (g.E.EngineTells.pinned_sizes c.args.engine.now c.args.transaction.pin snapshot c.requires.live is) c.requires.sound))
     c.in-Ok.ensures.runs)
     (answer.0, answer.1, answer.2.0)
 

@@ -11,5 +11,5 @@ pub returns-in-Write-clause-sound : goal.returns-in-Write-clause-sound
 returns-in-Write-clause-sound g c =
     let range = rw c.in-Write.is at c.requires.range in
     sound_write c.note_write-done.result _ c.page_size-page_size.result c.args.transaction _ c.in-Write.page c.in-Write.byte range
-    c.page_size-page_size.ensures.value c.note_write-done.ensures.ok
+    c.page_size-page_size.ensures c.note_write-done.ensures.ok
     c.note_write-done.ensures.err c.requires.sound

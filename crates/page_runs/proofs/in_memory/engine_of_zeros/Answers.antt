@@ -5,7 +5,7 @@ use Rattle.page_spec.specs.PageMap.{PageMap, page_size_of, page_sizes}
 use Rattle.engine_spec.specs.declared.commits.Commit.{Commit}
 use Rattle.page_lines.specs.World.{zeros}
 use Rattle.page_lines.proofs.SerialLaw.{zeros_are_store}
-use Rattle.acts.proofs.in_memory.engine_of_zeros.Goals as goal
+use Rattle.page_runs.proofs.in_memory.engine_of_zeros.Goals as goal
 
 -- the newest map has the pages that page lines name
 enough : (maps : List PageMap) (history : List Commit) → maps ≡ zeros ∷ [] → history ≡ []

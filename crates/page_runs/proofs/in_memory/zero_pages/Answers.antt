@@ -1,7 +1,7 @@
 use Rattle.std.proofs.Common.{◌≡◌, ◌∙◌, ℕ, ◌+◌, List, [], ◌∷◌, ◌++◌, replicate, ap, arith}
 use Rattle.std.proofs.lemmas.List.{replicate-append-replicate}
 use Rattle.page_lines.specs.World.{zeros}
-use Rattle.acts.proofs.in_memory.zero_pages.Goals as goal
+use Rattle.page_runs.proofs.in_memory.zero_pages.Goals as goal
 
 -- one more of the same
 one_more : (pages : List (List ℕ)) (page : List ℕ) (n : ℕ) → pages ≡ replicate n page → pages ++ page ∷ [] ≡ replicate (n + 1) page

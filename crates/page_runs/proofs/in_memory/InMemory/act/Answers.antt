@@ -3,8 +3,8 @@ use Rattle.std.specs.Prelude.{IfOk, OnErr}
 use Rattle.page_lines.specs.World.{step}
 use Rattle.std.proofs.lemmas.Result.{IfOk-weaker}
 use Rattle.page_runs.specs.InMemory.{Memory, IsAt}
-use Rattle.acts.proofs.Memory.{memory_acts, memory_wants}
-use Rattle.acts.proofs.in_memory.InMemory.act.Goals as goal
+use Rattle.page_runs.proofs.Memory.{memory_acts, memory_wants}
+use Rattle.page_runs.proofs.in_memory.InMemory.act.Goals as goal
 
 -- what follows from two facts of an error
 both_errs : {T E : Type 0} (result : Result T E) (P Q : Type 0) {R : Type 0} → OnErr result P → OnErr result Q → (P → Q → R) → OnErr result R

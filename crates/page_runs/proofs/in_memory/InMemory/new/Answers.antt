@@ -1,7 +1,7 @@
 use Rattle.page_lines.specs.World.{zeros}
 use Rattle.page_lines.proofs.SerialLaw.{zeros_are_store}
-use Rattle.acts.proofs.Memory.{memory_starts}
-use Rattle.acts.proofs.in_memory.InMemory.new.Goals as goal
+use Rattle.page_runs.proofs.Memory.{memory_starts}
+use Rattle.page_runs.proofs.in_memory.InMemory.new.Goals as goal
 
 pub returns : goal.returns
 returns c =
