@@ -1,5 +1,5 @@
 -- What an act leaves of a transaction, and what a refused or accepted COMMIT means for the list of seats.
-use Rattle.std.proofs.Common.{◌≡◌, ◌≢◌, inl, inr, ℕ, ◌+◌, ◌≤◌, List, [], ◌∷◌, ◌++◌, length, replicate, Option, Some, None, Result, Ok, Err, Bool, true, cond, ◌&&◌, is_some, refl, sym, subst, ap, ◌∙◌, arith}
+use Rattle.std.proofs.Common.{◌≡◌, ◌≢◌, inl, inr, ℕ, ◌≤◌, List, [], ◌∷◌, ◌++◌, length, replicate, Option, Some, None, Result, Ok, Err, Bool, true, cond, ◌&&◌, is_some, refl, sym, subst, ap, ◌∙◌, arith}
 use Rattle.std.specs.Prelude.{IfSome, IfOk, OnOk, OnErr, false}
 use Rattle.std.specs.declared.alloc.AllocError.{AllocError}
 use Rattle.std.proofs.lemmas.List.{length-replicate}
@@ -364,8 +364,7 @@ done_acts engine session ordinal old new receipt done fresh freed none none_free
       ordinal = ordinal;
     } in
     let bare : asked fresh freed ≡ submitted_of before session old =
-    ap (λ (fresh : List PageImage). asked fresh freed) none ∙ (ap (asked []) none_freed ∙ asked_is before session ordinal old new after moves) in
-    (
+    ap (λ (fresh : List PageImage). asked fresh freed) none ∙ (ap (asked []) none_freed ∙ asked_is before session ordinal old new after moves) in (
       (
         found.0,
         found.1,
