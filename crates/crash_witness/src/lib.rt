@@ -5,5 +5,7 @@
 #![tactic(auto)]
 
 mod append;
+mod known;
 
 pub use append::append_frame;
+pub use known::outlasts;
