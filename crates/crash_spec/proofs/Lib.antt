@@ -17,3 +17,4 @@ pub mod StoreMoments
 pub mod Copying
 pub mod Switching
 pub mod Switched
+pub mod Opened
