@@ -133,6 +133,10 @@ fn unsynced(alloc: Global) -> Result<bool, Failed> {
     trial.leaves(alloc, b"xyzw", b"main,xyz,d")
 }
 
+fn made(file: File, call: Call, failed: bool) -> Made {
+    Made { file, call, failed }
+}
+
 #[test]
 fn a_disk_stops_where_it_is_told(rt: HostRuntime) -> Result<(), test::Fail> {
     let mut trial = Trial::new(rt.alloc(), None)?;
@@ -143,7 +147,6 @@ fn a_disk_stops_where_it_is_told(rt: HostRuntime) -> Result<(), test::Fail> {
     assert_eq!(rt; trial.size(), Ok(4));
     assert_eq!(rt; trial.size(), Err(Failed));
     assert_eq!(rt; trial.disk.calls(), 5);
-    let made = |file, call, failed| Made { file, call, failed };
     assert_eq!(rt;
         trial.disk.made(),
         [
