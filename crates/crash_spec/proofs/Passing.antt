@@ -60,7 +60,7 @@ module _ (opening : Opening) (Leaves : History → Files → Type 0) where
       subst (λ told. Passes opening Leaves Q old told) (sym same) (passes_step P Q (Refused piece left) images later old (goes left within) h)
 
   -- two calls, one after the other
-  since_join : (old mid new : Option History) → AtEachMoment opening Leaves old mid → AtEachMoment opening Leaves mid new → AtEachMoment opening Leaves old new
+  pub since_join : (old mid new : Option History) → AtEachMoment opening Leaves old mid → AtEachMoment opening Leaves mid new → AtEachMoment opening Leaves old new
   since_join None None None one two = tt
   since_join None (Some mid) new one two = absurd one
   since_join (Some old) None new one two = absurd one

@@ -34,9 +34,13 @@ abbrev pub pieces_from : File → ℕ → List Frame → List Piece
 pieces_from file at [] = []
 pieces_from file at (frame ∷ rest) = (record { file = file; at = at; bytes = frame }) ∷ pieces_from file (at + length frame) rest
 
+-- the accepted frames of a log as pieces
+abbrev pub accepted_pieces : File → List ℕ → List Piece
+accepted_pieces log bytes = pieces_from log header_size (accepted_frames (number_of log) bytes)
+
 -- The marks of a log with these bytes: its header, where the bytes are signed, also as one of another version, page size or byte
 -- order; and the frames that are accepted, each at its place.
 unfoldable pub marks : File → List ℕ → List Piece
 marks log bytes =
     (if is_signed bytes then header_piece log bytes ∷ [] else [])
-    ++ pieces_from log header_size (accepted_frames (number_of log) bytes)
+    ++ accepted_pieces log bytes

@@ -2,7 +2,7 @@
 ghost use Rattle.std.specs.Prelude.{◌≡◌, true, false, IfOk};
 
 use disk_face::{Disk, Failed, File, Salts, Sink, Source};
-use disk_mem::{Call, Fail, FixedSalts, MemDisk, MemSink, MemSource};
+use disk_mem::{Call, Fail, FixedSalts, Made, MemDisk, MemSink, MemSource};
 use std::alloc::{AllocError, Global};
 use std::test;
 
@@ -133,6 +133,10 @@ fn unsynced(alloc: Global) -> Result<bool, Failed> {
     trial.leaves(alloc, b"xyzw", b"main,xyz,d")
 }
 
+fn made(file: File, call: Call, failed: bool) -> Made {
+    Made { file, call, failed }
+}
+
 #[test]
 fn a_disk_stops_where_it_is_told(rt: HostRuntime) -> Result<(), test::Fail> {
     let mut trial = Trial::new(rt.alloc(), None)?;
@@ -143,6 +147,17 @@ fn a_disk_stops_where_it_is_told(rt: HostRuntime) -> Result<(), test::Fail> {
     assert_eq!(rt; trial.size(), Ok(4));
     assert_eq!(rt; trial.size(), Err(Failed));
     assert_eq!(rt; trial.disk.calls(), 5);
+    assert_eq!(rt;
+        trial.disk.made(),
+        [
+            made(File::Main, Call::Attach, false),
+            made(File::Main, Call::Journal, false),
+            made(File::Main, Call::Journal, false),
+            made(File::Main, Call::Size, false),
+            made(File::Main, Call::Size, true),
+        ]
+        .as_slice()
+    );
     trial.disk.stop_after(0);
     assert_eq!(rt; trial.journal(), Err(Failed));
     Ok(())

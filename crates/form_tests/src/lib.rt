@@ -12,3 +12,7 @@ mod lines;
 mod log_headers;
 #[cfg(test)]
 mod log_scan;
+#[cfg(test)]
+mod stock_headers;
+#[cfg(test)]
+mod torn_headers;

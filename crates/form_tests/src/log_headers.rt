@@ -165,7 +165,9 @@ fn other_headers_are_nothing_or_foreign(rt: HostRuntime) {
             at: 12
         }
     );
-    let cases: [(u32, u32, u8, u64); 7] = [
+    let cases: [(u32, u32, u8, u64); 9] = [
+        (0, 1, 1, 8),
+        (3, 1, 1, 8),
         (1000, 1, 1, 8),
         (256, 1, 1, 8),
         (131072, 1, 1, 8),

@@ -1,8 +1,7 @@
 -- A frame, from its bytes and the checksum over them.
-use Rattle.std.proofs.Common.{◌≡◌, ℕ, ◌+◌, ◌-◌, ◌%◌, ◌≤◌, ◌==◌, Bool, true, false, List, length, take, drop, refl, ◌∙◌, arith, if◌then◌else◌, length-drop, get_or-take}
+use Rattle.std.proofs.Common.{◌≡◌, ℕ, ◌+◌, ◌-◌, ◌%◌, ◌==◌, Bool, true, false, List, length, take, drop, refl, ◌∙◌, arith, if◌then◌else◌, length-drop}
 use Rattle.std.proofs.lemmas.List.{take_all}
 use Rattle.std.proofs.lemmas.Bool.Decides.{nat_tests}
-use Rattle.page_spec.specs.Bytes.{u32_at}
 use Rattle.page_spec.specs.Header.{is_page_size}
 use Rattle.log_spec.specs.Checksum.{Sum as Words, checksum}
 use Rattle.log_spec.specs.LogHeader.{is_big, big_magic, little_magic}
@@ -14,16 +13,6 @@ use Rattle.wal_frames.specs.declared.header.LogHeader.{LogHeader}
 pub page_size_whole : (size : ℕ) → is_page_size size ≡ true → size % 8 ≡ 0
 unfolding is_page_size
 page_size_whole size h = grind (arith, nat_tests)
-
-pub u32_at-take : (n : ℕ) (bytes : List ℕ) (at : ℕ) → at + 4 ≤ n → u32_at (take n bytes) at ≡ u32_at bytes at
-unfolding u32_at
-u32_at-take n bytes at within =
-    rw (
-      get_or-take n bytes at 0 (omega arith),
-      get_or-take n bytes (at + 1) 0 (omega arith),
-      get_or-take n bytes (at + 2) 0 (omega arith),
-      get_or-take n bytes (at + 3) 0 (omega arith),
-    ) refl
 
 big_told : (header : LogHeader) → is_big (fields_for header) ≡ header.big
 big_told header = by (header.big)

@@ -5,7 +5,7 @@ use Rattle.page_spec.specs.Bytes.{u32_at}
 use Rattle.page_spec.specs.Header.{is_page_size}
 use Rattle.log_spec.specs.Checksum.{checksum, sum_of_pairs, pair_step, word_at}
 use Rattle.log_spec.proofs.ChecksumLaws.{sum_of_pairs-more}
-use Rattle.log_spec.specs.LogHeader.{log_fields, is_signed, is_generation, foreign_at, same_sum, own_version, big_magic, little_magic}
+use Rattle.log_spec.specs.LogHeader.{header_size, log_fields, is_signed, is_generation, foreign_at, same_sum, own_version, big_magic, little_magic}
 use Rattle.wal_frames.specs.Front.{front_of, header_in}
 use Rattle.wal_frames.specs.declared.header.Front.TheVariants.{Nothing, Foreign, Ours}
 
@@ -21,14 +21,14 @@ eq_true m n h = grind (arith, nat_tests)
 pub eq_false : (m n : ℕ) → (m ≡ n → ⊥) → (m == n) ≡ false
 eq_false m n h = grind (arith, nat_tests)
 
-pub short_is_unsigned : (bytes : List ℕ) → length bytes < 32 → false ≡ is_signed bytes
+pub short_is_unsigned : (bytes : List ℕ) → length bytes < header_size → false ≡ is_signed bytes
 unfolding is_signed
-short_is_unsigned bytes h = rw (le_false 32 (length bytes) h) refl
+short_is_unsigned bytes h = rw (le_false header_size (length bytes) h) refl
 
 pub other_is_unsigned : (bytes : List ℕ) → (u32_at bytes 0 ≡ big_magic → ⊥) → (u32_at bytes 0 ≡ little_magic → ⊥) → false ≡ is_signed bytes
 unfolding is_signed log_fields
 other_is_unsigned bytes big little =
-    rw (eq_false (u32_at bytes 0) big_magic big, eq_false (u32_at bytes 0) little_magic little) (no_more (nat_le 32 (length bytes)) _)
+    rw (eq_false (u32_at bytes 0) big_magic big, eq_false (u32_at bytes 0) little_magic little) (no_more (nat_le header_size (length bytes)) _)
   where
     no_more : (b others : Bool) → false ≡ (b && false && others)
     no_more true others = refl
@@ -39,10 +39,10 @@ one_of n (inl h) = rw h refl
 one_of n (inr h) = rw h refl
 
 -- with a right magic number the checksum decides
-pub signed_by_sum : (bytes : List ℕ) → 32 ≤ length bytes → (u32_at bytes 0 == big_magic || u32_at bytes 0 == little_magic) ≡ true
+pub signed_by_sum : (bytes : List ℕ) → header_size ≤ length bytes → (u32_at bytes 0 == big_magic || u32_at bytes 0 == little_magic) ≡ true
     → is_signed bytes ≡ same_sum (u32_at bytes 24, u32_at bytes 28) (checksum (u32_at bytes 0 == big_magic) (0, 0) (take 24 bytes))
 unfolding is_signed log_fields
-signed_by_sum bytes long magic = rw (le_true 32 (length bytes) long, magic) refl
+signed_by_sum bytes long magic = rw (le_true header_size (length bytes) long, magic) refl
 
 pub magic_either : (bytes : List ℕ) (magic : ℕ) → magic ≡ u32_at bytes 0 → ((magic ≡ big_magic → ⊥) × (magic ≡ little_magic)) ⊎ (magic ≡ big_magic)
     → (u32_at bytes 0 == big_magic || u32_at bytes 0 == little_magic) ≡ true
@@ -50,7 +50,7 @@ magic_either bytes magic is (inl other) = one_of (u32_at bytes 0) (inr (sym is �
 magic_either bytes magic is (inr same) = one_of (u32_at bytes 0) (inl (sym is ∙ same))
 
 -- the second word decides where the first is right
-pub signed_then : (bytes : List ℕ) (big : Bool) (sum : ℕ × ℕ) (first second : ℕ) → 32 ≤ length bytes
+pub signed_then : (bytes : List ℕ) (big : Bool) (sum : ℕ × ℕ) (first second : ℕ) → header_size ≤ length bytes
     → (u32_at bytes 0 == big_magic || u32_at bytes 0 == little_magic) ≡ true → big ≡ (u32_at bytes 0 == big_magic)
     → sum ≡ checksum big (0, 0) (take 24 bytes) → first ≡ u32_at bytes 24 → second ≡ u32_at bytes 28 → first ≡ sum.0
     → (second == sum.1) ≡ is_signed bytes
@@ -63,7 +63,7 @@ signed_then bytes big sum first second long magic is summed one two same =
     rw (two, last) (sym (by ∙ rw right refl))
 
 -- and a wrong first word settles it
-pub signed_else : (bytes : List ℕ) (big : Bool) (sum : ℕ × ℕ) (first : ℕ) → 32 ≤ length bytes
+pub signed_else : (bytes : List ℕ) (big : Bool) (sum : ℕ × ℕ) (first : ℕ) → header_size ≤ length bytes
     → (u32_at bytes 0 == big_magic || u32_at bytes 0 == little_magic) ≡ true → big ≡ (u32_at bytes 0 == big_magic)
     → sum ≡ checksum big (0, 0) (take 24 bytes) → first ≡ u32_at bytes 24 → (first ≡ sum.0 → ⊥)
     → (first == sum.0) ≡ is_signed bytes

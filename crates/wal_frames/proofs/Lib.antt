@@ -1,5 +1,6 @@
 mod FrameParts
 mod Fronts
+mod Kept
 mod Knows
 mod Opening
 mod Pieces

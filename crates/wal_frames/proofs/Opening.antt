@@ -1,49 +1,29 @@
 -- What the front of a log tells of its bytes.
 use Rattle.std.proofs.Common.{◌≡◌, ℕ, ◌≤◌, ◌<◌, ◌&&◌, ◌||◌, ◌==◌, Bool, true, false, List, [], length, take, refl, sym, ◌∙◌, ap, arith, if◌then◌else◌, Option, Some, None}
-use Rattle.std.proofs.lemmas.List.{length-take-le, take-take}
 use Rattle.std.proofs.lemmas.Bool.{eqb-true}
 use Rattle.std.specs.Prelude.{Result, Ok, Err, IfOk}
 use Rattle.page_spec.specs.Header.{is_page_size}
-use Rattle.log_spec.specs.LogHeader.{LogFields, log_fields, is_signed, is_generation, foreign_at, own_version, big_magic, little_magic, IsOurs}
+use Rattle.log_spec.specs.LogHeader.{header_size, LogFields, log_fields, is_signed, is_generation, foreign_at, own_version, big_magic, little_magic, IsOurs}
 use Rattle.log_spec.specs.Accept.{Accepted as IsAccepted}
-use Rattle.wal_frames.specs.Front.{front_of, header_in, signed_front, fields_for, words_of}
-use Rattle.wal_frames.specs.Found.{IsLegalFront, FindsFrames, FindsAccepted, start_sum}
+use Rattle.wal_frames.specs.Front.{IsLegalFront, HasRoom, front_of, header_in, signed_front, fields_for, words_of}
+use Rattle.wal_frames.specs.Found.{FindsFrames, FindsAccepted, start_sum}
 use Rattle.wal_frames.specs.declared.header.LogHeader.{LogHeader}
 use Rattle.wal_frames.specs.declared.header.Front.{Front}
 use Rattle.wal_frames.specs.declared.header.Front.TheVariants.{Nothing, Foreign, Ours}
 use Rattle.wal_frames.specs.declared.found.Accepted.{Accepted}
-use Rattle.wal_frames.proofs.FrameParts.{u32_at-take}
-use Rattle.wal_frames.proofs.Fronts.{short_is_unsigned, nothing_there, le_true}
+use Rattle.log_spec.proofs.HeaderLaws.{fields-take, signed-take, signed_long}
+use Rattle.wal_frames.proofs.Fronts.{short_is_unsigned, nothing_there}
 
-pub short_front : (log : ℕ) (bytes : List ℕ) → length bytes < 32 → Nothing ≡ front_of log bytes
+pub short_front : (log : ℕ) (bytes : List ℕ) → length bytes < header_size → Nothing ≡ front_of log bytes
 short_front log bytes short = nothing_there log bytes (sym (short_is_unsigned bytes short))
 
--- the front is told by the first 32 bytes
-fields-take : (bytes : List ℕ) → log_fields (take 32 bytes) ≡ log_fields bytes
-unfolding log_fields
-fields-take bytes =
-    rw (
-      u32_at-take 32 bytes 0 (omega arith),
-      u32_at-take 32 bytes 4 (omega arith),
-      u32_at-take 32 bytes 8 (omega arith),
-      u32_at-take 32 bytes 12 (omega arith),
-      u32_at-take 32 bytes 16 (omega arith),
-      u32_at-take 32 bytes 20 (omega arith),
-      u32_at-take 32 bytes 24 (omega arith),
-      u32_at-take 32 bytes 28 (omega arith),
-    ) refl
-
-signed-take : (bytes : List ℕ) → 32 ≤ length bytes → is_signed (take 32 bytes) ≡ is_signed bytes
-unfolding is_signed
-signed-take bytes long =
-    rw (fields-take bytes, take-take 24 32 bytes (omega arith), le_true 32 (length (take 32 bytes)) (omega (arith, length-take-le 32 bytes long)), le_true 32 (length bytes) long) refl
-
-pub front-take : (log : ℕ) (bytes : List ℕ) → 32 ≤ length bytes → front_of log (take 32 bytes) ≡ front_of log bytes
+-- the front is told by the bytes of a header
+pub front-take : (log : ℕ) (bytes : List ℕ) → header_size ≤ length bytes → front_of log (take header_size bytes) ≡ front_of log bytes
 unfolding front_of header_in
 front-take log bytes long =
     rw (signed-take bytes long, fields-take bytes) (ap (λ (front : Front). if is_signed bytes then front else Nothing) (either (foreign_at log (log_fields bytes))))
   where
-    either : (at : Option ℕ) → signed_front (take 32 bytes) at ≡ signed_front bytes at
+    either : (at : Option ℕ) → signed_front (take header_size bytes) at ≡ signed_front bytes at
     either None = rw (fields-take bytes) refl
     either (Some at) = rw (fields-take bytes) refl
 
@@ -106,13 +86,23 @@ page_size_told : (log : ℕ) (bytes : List ℕ) (header : LogHeader) → OursPar
 unfolding header_in
 page_size_told log bytes header parts = rw parts.told ((own_tests log (log_fields bytes) parts.ours.own).1)
 
--- a header of ours has a legal page size
-pub legal_front : (log : ℕ) (bytes : List ℕ) (size : ℕ) → 32 ≤ size → (front : Front) → front ≡ front_of log bytes → IsLegalFront front size
-legal_front log bytes size long Nothing h = tt
-legal_front log bytes size long (Foreign version at) h = tt
-legal_front log bytes size long (Ours header) h =
+generation_told : (log : ℕ) (bytes : List ℕ) (header : LogHeader) → OursParts log bytes header → is_generation log header.generation ≡ true
+unfolding header_in
+generation_told log bytes header parts = rw parts.told ((own_tests log (log_fields bytes) parts.ours.own).2)
+
+-- a header of ours is a legal one
+pub legal_front : (log : ℕ) (bytes : List ℕ) (front : Front) → front ≡ front_of log bytes → IsLegalFront log front
+legal_front log bytes Nothing h = tt
+legal_front log bytes (Foreign version at) h = tt
+legal_front log bytes (Ours header) h =
     let parts = ours_parts log bytes header (sym h) in
-    (page_size_told log bytes header parts, long)
+    (page_size_told log bytes header parts, generation_told log bytes header parts)
+
+-- and the bytes have room for it
+pub room_for : (log : ℕ) (bytes : List ℕ) (size : ℕ) → length bytes ≤ size → (front : Front) → front ≡ front_of log bytes → HasRoom front size
+room_for log bytes size within Nothing h = tt
+room_for log bytes size within (Foreign version at) h = tt
+room_for log bytes size within (Ours header) h = let long = signed_long bytes (ours_parts log bytes header (sym h)).ours.signed in omega arith
 
 none_accepted : (log : ℕ) (bytes : List ℕ) → (IsOurs log bytes → ⊥) → IsAccepted log bytes []
 none_accepted log bytes other = record {

@@ -4,7 +4,7 @@ use Rattle.std.proofs.lemmas.Bool.Decides.{nat_tests}
 use Rattle.page_spec.specs.Bytes.{u32_at}
 use Rattle.page_spec.specs.Header.{is_page_size}
 use Rattle.log_spec.specs.Checksum.{checksum}
-use Rattle.log_spec.specs.LogHeader.{log_fields, is_signed, is_generation, own_version, big_magic, little_magic}
+use Rattle.log_spec.specs.LogHeader.{header_size, log_fields, is_signed, is_generation, own_version, big_magic, little_magic}
 use Rattle.wal_frames.specs.Front.{front_of, header_in, TellsLogHeader}
 use Rattle.wal_frames.specs.declared.header.LogHeader.{LogHeader}
 use Rattle.wal_frames.specs.declared.header.Front.TheVariants.{Ours}
@@ -12,7 +12,7 @@ use Rattle.wal_frames.proofs.Fronts.{signed_by_sum, ours_there}
 
 -- each field of the header stands at its offset, and the checksum over them after them
 pub record Written (bytes : List ℕ) (header : LogHeader) : Type 0 where
-  pub long : 32 ≤ length bytes
+  pub long : header_size ≤ length bytes
   pub magic : u32_at bytes 0 ≡ (if header.big then big_magic else little_magic)
   pub version : u32_at bytes 4 ≡ own_version
   pub page_size : u32_at bytes 8 ≡ header.page_size

@@ -1,7 +1,8 @@
 -- What the bytes of a log begin with, in the types of this crate.
-use Rattle.std.specs.Prelude.{◌≡◌, ℕ, List, if◌then◌else◌, Option, Some, None}
+use Rattle.std.specs.Prelude.{◌≡◌, ℕ, ◌≤◌, IsTrue, List, if◌then◌else◌, Option, Some, None}
+use Rattle.page_spec.specs.Header.{is_page_size}
 use Rattle.log_spec.specs.Checksum.{Sum as Words}
-use Rattle.log_spec.specs.LogHeader.{LogFields, log_fields, is_big, is_signed, foreign_at, own_version, big_magic, little_magic}
+use Rattle.log_spec.specs.LogHeader.{header_size, is_generation, LogFields, log_fields, is_big, is_signed, foreign_at, own_version, big_magic, little_magic}
 use Rattle.wal_frames.specs.declared.sum.Sum.{Sum}
 use Rattle.wal_frames.specs.declared.header.LogHeader.{LogHeader}
 use Rattle.wal_frames.specs.declared.header.Front.{Front}
@@ -32,6 +33,24 @@ signed_front bytes (Some at) = Foreign (log_fields bytes).version at
 -- what the bytes of log 1 or log 2 begin with
 unfoldable pub front_of : ℕ → List ℕ → Front
 front_of log bytes = if is_signed bytes then signed_front bytes (foreign_at log (log_fields bytes)) else Nothing
+
+-- a front that is a header of ours
+abbrev pub IsOursFront : Front → Type 0
+IsOursFront Nothing = ⊥
+IsOursFront (Foreign version at) = ⊥
+IsOursFront (Ours header) = Unit {0}
+
+-- a header of ours in log 1 or log 2 has a legal page size, and a generation of that log
+abbrev pub IsLegalFront : ℕ → Front → Type 0
+IsLegalFront log Nothing = Unit {0}
+IsLegalFront log (Foreign version at) = Unit {0}
+IsLegalFront log (Ours header) = IsTrue (is_page_size header.page_size) × IsTrue (is_generation log header.generation)
+
+-- so many bytes have room for the header, where it is ours
+abbrev pub HasRoom : Front → ℕ → Type 0
+HasRoom Nothing size = Unit {0}
+HasRoom (Foreign version at) size = Unit {0}
+HasRoom (Ours header) size = header_size ≤ size
 
 -- the bytes tell this header, but for a checksum of their own, and have this project's version
 pub record TellsLogHeader (bytes : List ℕ) (header : LogHeader) : Type 0 where

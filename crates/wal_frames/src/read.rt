@@ -1,7 +1,8 @@
+// What bytes are read as the header of a log.
 ghost use Rattle.std.specs.Prelude.{◌≡◌, ◌≤◌, ◌⊎◌, length, IsTrue};
 ghost use Rattle.page_spec.specs.Header.{is_page_size};
-ghost use Rattle.log_spec.specs.LogHeader.{is_signed, is_generation};
-ghost use Rattle.wal_frames.specs.Front.{front_of, header_in};
+ghost use Rattle.log_spec.specs.LogHeader.{header_size, is_signed, is_generation};
+ghost use Rattle.wal_frames.specs.Front.{front_of, header_in, IsLegalFront, HasRoom};
 
 use crate::header::{Front, LogHeader};
 use crate::sum::{Sum, sum_step};
@@ -28,7 +29,9 @@ const GREATEST_GENERATION: u32 = 4_000_000_000;
 /// What the bytes of log 1 or log 2 begin with. There may be more bytes than a header has.
 pub fn read_log_header(bytes: &[u8], log: u8) -> Front
     requires { (log ≡ 1) ⊎ (log ≡ 2) }
-    ensures { result ≡ front_of log bytes.now }
+    ensures front { result ≡ front_of log bytes.now }
+    ensures legal { IsLegalFront log result }
+    ensures room { HasRoom result (length bytes.now) }
 {
     if !is_signed(bytes) {
         return Front::Nothing;
@@ -51,7 +54,7 @@ pub fn read_log_header(bytes: &[u8], log: u8) -> Front
 /// Whether the bytes begin with a whole header of a right magic number and a right checksum.
 fn is_signed(bytes: &[u8]) -> bool
     ensures value { result ≡ is_signed bytes.now }
-    ensures long { IsTrue result → 32 ≤ length bytes.now }
+    ensures long { IsTrue result → header_size ≤ length bytes.now }
 {
     if bytes.len() < HEADER_SIZE {
         return false;
@@ -89,7 +92,7 @@ fn is_generation(log: u8, generation: u32) -> bool
 /// What a header tells.
 #[tactic(auto, unfolding(log_spec::specs::LogHeader::log_fields, crate::specs::Front::header_in))]
 fn header_in(bytes: &[u8]) -> LogHeader
-    requires { 32 ≤ length bytes.now }
+    requires { header_size ≤ length bytes.now }
     ensures { result ≡ header_in bytes.now }
 {
     LogHeader {

@@ -1,16 +1,22 @@
-ghost use Rattle.std.specs.Prelude.{◌≡◌, ◌⊎◌, ◌+◌, ◌≤◌, true, length, Err, IfOk, IfSome, IfErr, OnOk, [], ◌∷◌, ◌++◌, IsTrue, ◌↔◌};
-ghost use Rattle.disk_face.specs.Faults.{Rose};
+// What is accepted of a log on a disk: its header and its frames are read once, from the front on.
+//
+// While frames are read, `pages` has the numbers of all of them, and `kept`, `kept_size` and `kept_sum` are what is known behind the
+// last one that ended a commit.
+ghost use Rattle.std.specs.Prelude.{◌≡◌, ◌≢◌, ◌⊎◌, ◌+◌, ◌≤◌, ℕ, true, length, Err, IfOk, IfSome, IfErr, OnOk, [], ◌∷◌, ◌++◌, IsTrue, ◌↔◌};
+ghost use Rattle.disk_face.specs.Faults.{Counts};
 ghost use Rattle.disk_face.specs.Files.{content};
+ghost use Rattle.disk_face.specs.Stays.{OnlyReads};
 ghost use Rattle.disk_face.specs.Steps.{reads};
 ghost use Rattle.disk_face.specs.Told.{IsSize};
 ghost use Rattle.page_spec.specs.Header.{is_page_size};
-ghost use Rattle.wal_frames.specs.Front.{words_of, front_of};
+ghost use Rattle.log_spec.specs.LogHeader.{header_size};
+ghost use Rattle.wal_frames.specs.Front.{words_of, front_of, IsLegalFront, HasRoom};
 ghost use Rattle.wal_frames.specs.Scan.{FitsHead, TellsOf, NextOf};
-ghost use Rattle.wal_frames.specs.Found.{FindsFrames, FindsAccepted, IsLegalFront, log_file};
+ghost use Rattle.wal_frames.specs.Found.{FindsFrames, FindsAccepted, IsLegal, log_file, is_disk_well};
 
 use crate::found::{Accepted, ScanFault};
 use crate::header::{Front, LogHeader};
-use crate::read::read_log_header;
+use crate::read::{HEADER_SIZE, read_log_header};
 use crate::sum::{Sum, sum_step};
 use be_fields::get_u32;
 use disk_face::{Disk, Failed, File};
@@ -93,14 +99,10 @@ fn next_frame<D: Disk>(
     ensures frame { IfOk result (λ found. IfSome (D.told disk.old)
         (λ told. NextOf header.now (words_of sum) (content (reads told) file) at found)) }
     ensures room { IfOk result (λ found. IfSome found (λ frame. at + (24 + header.now.page_size) ≤ size)) }
-    ensures cause { result ≡ Err ScanFault.Disk → Rose (D.faults disk.old) (D.faults disk.new) }
+    ensures numbered { IfOk result (λ found. IfSome found (λ frame. frame.page ≢ 0)) }
     ensures disk_only { result ≡ Err ScanFault.Memory → ⊥ }
-    ensures faults { D.faults disk.old ≤ D.faults disk.new }
-    ensures loans { D.loans disk.new ≡ D.loans disk.old }
-    ensures journal_answer { D.journal_answer disk.new ≡ D.journal_answer disk.old }
-    ensures attached { D.attached disk.new ≡ D.attached disk.old }
-    ensures named { D.named disk.new ≡ D.named disk.old }
-    ensures told { D.told disk.new ≡ D.told disk.old }
+    ensures stays { OnlyReads D.DiskTells disk.old disk.new }
+    ensures faults { Counts (is_disk_well result) (D.faults disk.old) (D.faults disk.new) }
 {
     if size - at < frame.len() as u64 {
         return Ok(None);
@@ -133,17 +135,13 @@ fn scan<D: Disk>(
     requires attached { D.attached disk.old ≡ true }
     requires legal { IsTrue (is_page_size header.now.page_size) }
     requires sized { IsSize (D.told disk.old) file size }
-    requires long { 32 ≤ size }
+    requires long { header_size ≤ size }
     ensures front { IfOk result (λ found. found.front ≡ Front.Ours header.now) }
     ensures found { IfOk result (λ found. IfSome (D.told disk.old)
         (λ told. FindsFrames header.now (content (reads told) file) found)) }
-    ensures cause { result ≡ Err ScanFault.Disk → Rose (D.faults disk.old) (D.faults disk.new) }
-    ensures faults { D.faults disk.old ≤ D.faults disk.new }
-    ensures loans { D.loans disk.new ≡ D.loans disk.old }
-    ensures journal_answer { D.journal_answer disk.new ≡ D.journal_answer disk.old }
-    ensures attached { D.attached disk.new ≡ D.attached disk.old }
-    ensures named { D.named disk.new ≡ D.named disk.old }
-    ensures told { D.told disk.new ≡ D.told disk.old }
+    ensures legal { (log : ℕ) → IsLegalFront log (Front.Ours header.now) → IfOk result (λ found. IsLegal log found) }
+    ensures stays { OnlyReads D.DiskTells disk.old disk.new }
+    ensures faults { Counts (is_disk_well result) (D.faults disk.old) (D.faults disk.new) }
 {
     let mut room = [0u8; LONGEST_FRAME];
     let frame_size = frame_size(header);
@@ -152,7 +150,7 @@ fn scan<D: Disk>(
     let mut kept = 0;
     let mut kept_size = 0;
     let mut kept_sum = header.sum;
-    let mut at = 32;
+    let mut at = HEADER_SIZE as u64;
     let mut sum = header.sum;
     while let Some(frame) = next_frame(disk, file, size, at, header, sum, buffer)? {
         add_page(&mut pages, frame.page)?;
@@ -179,19 +177,16 @@ fn read_front<D: Disk>(disk: &mut D, file: File, size: u64, log: u8) -> Result<F
     requires attached { D.attached disk.old ≡ true }
     requires sized { IsSize (D.told disk.old) file size }
     ensures front { IfOk result (λ front. IfSome (D.told disk.old) (λ told. front ≡ front_of log (content (reads told) file))) }
-    ensures ours { IfOk result (λ front. IsLegalFront front size) }
-    ensures cause { IfErr result (λ fault. (fault ≡ ScanFault.Disk) × Rose (D.faults disk.old) (D.faults disk.new)) }
-    ensures faults { D.faults disk.old ≤ D.faults disk.new }
-    ensures loans { D.loans disk.new ≡ D.loans disk.old }
-    ensures journal_answer { D.journal_answer disk.new ≡ D.journal_answer disk.old }
-    ensures attached { D.attached disk.new ≡ D.attached disk.old }
-    ensures named { D.named disk.new ≡ D.named disk.old }
-    ensures told { D.told disk.new ≡ D.told disk.old }
+    ensures legal { IfOk result (λ front. IsLegalFront log front) }
+    ensures room { IfOk result (λ front. HasRoom front size) }
+    ensures disk_only { IfErr result (λ fault. fault ≡ ScanFault.Disk) }
+    ensures stays { OnlyReads D.DiskTells disk.old disk.new }
+    ensures faults { Counts (is_disk_well result) (D.faults disk.old) (D.faults disk.new) }
 {
-    if size < 32 {
+    if size < HEADER_SIZE as u64 {
         return Ok(Front::Nothing);
     }
-    let mut bytes = [0u8; 32];
+    let mut bytes = [0u8; HEADER_SIZE];
     match disk.read_at(file, 0, &mut bytes) {
         Ok(()) => Ok(read_log_header(&bytes, log)),
         Err(Failed) => Err(ScanFault::Disk),
@@ -208,13 +203,9 @@ pub fn accepted<D: Disk>(alloc: Global, disk: &mut D, log: u8) -> Result<Accepte
     requires attached { D.attached disk.old ≡ true }
     ensures found { IfOk result (λ found. IfSome (D.told disk.old)
         (λ told. FindsAccepted log (content (reads told) (log_file log)) found)) }
-    ensures cause { result ≡ Err ScanFault.Disk → Rose (D.faults disk.old) (D.faults disk.new) }
-    ensures faults { D.faults disk.old ≤ D.faults disk.new }
-    ensures loans { D.loans disk.new ≡ D.loans disk.old }
-    ensures journal_answer { D.journal_answer disk.new ≡ D.journal_answer disk.old }
-    ensures attached { D.attached disk.new ≡ D.attached disk.old }
-    ensures named { D.named disk.new ≡ D.named disk.old }
-    ensures told { D.told disk.new ≡ D.told disk.old }
+    ensures legal { IfOk result (λ found. IsLegal log found) }
+    ensures stays { OnlyReads D.DiskTells disk.old disk.new }
+    ensures faults { Counts (is_disk_well result) (D.faults disk.old) (D.faults disk.new) }
 {
     let file = log_file(log);
     let Ok(size) = disk.size(file) else {

@@ -4,26 +4,23 @@ use Rattle.disk_face.specs.Steps.{reads, History}
 use Rattle.wal_frames.specs.Front.{front_of}
 use Rattle.wal_frames.specs.declared.header.Front.TheVariants.{Nothing}
 use Rattle.wal_frames.proofs.Pieces.{if_some_2}
-use Rattle.wal_frames.proofs.Opening.{short_front, front-take, legal_front}
+use Rattle.log_spec.specs.LogHeader.{header_size}
+use Rattle.wal_frames.proofs.Opening.{short_front, front-take}
 use Rattle.wal_frames.proofs.scan.read_front.Goals as goal
 
-pub returns-then-size-lt32-clause-front : goal.returns-then-size-lt32-clause-front
-returns-then-size-lt32-clause-front g c =
+pub returns-then-size-clause-front : goal.returns-then-size-clause-front
+returns-then-size-clause-front g c =
     if_some_2 (λ (told : History). c.args.size ≡ length (content (reads told) c.args.file)) (λ (told : History). c.args.size ≡ length (content (reads told) c.args.file))
     (λ (told : History). Nothing ≡ front_of c.args.log (content (reads told) c.args.file))
     (λ told size same. short_front c.args.log (content (reads told) c.args.file) (omega arith))
-    (g.D.Disk.told c.args.disk.now) c.requires.sized c.requires.sized
+    (g.D.DiskTells.told c.args.disk.now) c.requires.sized c.requires.sized
 
 pub returns-in-Ok-clause-front : goal.returns-in-Ok-clause-front
 returns-in-Ok-clause-front g c =
     if_some_2 (λ (told : History). c.args.size ≡ length (content (reads told) c.args.file)) _
     (λ (told : History). c.read_log_header.result ≡ front_of c.args.log (content (reads told) c.args.file))
     (λ told size bytes.
-    let long : length c.read_at.new.buf ≡ 32 = omega arith in
-    let first : c.read_at.new.buf ≡ take 32 (content (reads told) c.args.file) = bytes ∙ ap (λ (n : ℕ). take n (content (reads told) c.args.file)) long in
-    c.read_log_header.ensures ∙ ap (front_of c.args.log) first ∙ front-take c.args.log (content (reads told) c.args.file) (omega arith))
-    (g.D.Disk.told c.args.disk.now) c.requires.sized c.in-Ok.ensures.bytes
-
-pub returns-in-Ok-clause-ours : goal.returns-in-Ok-clause-ours
-returns-in-Ok-clause-ours g c =
-    legal_front c.args.log c.read_at.new.buf c.args.size (omega arith) c.read_log_header.result c.read_log_header.ensures
+    let long : length c.read_at.new.buf ≡ header_size = omega arith in
+    let first : c.read_at.new.buf ≡ take header_size (content (reads told) c.args.file) = bytes ∙ ap (λ (n : ℕ). take n (content (reads told) c.args.file)) long in
+    c.read_log_header.ensures.front ∙ ap (front_of c.args.log) first ∙ front-take c.args.log (content (reads told) c.args.file) (omega arith))
+    (g.D.DiskTells.told c.args.disk.now) c.requires.sized c.in-Ok.ensures.bytes
