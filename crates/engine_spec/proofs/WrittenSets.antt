@@ -8,7 +8,7 @@ use Rattle.engine_spec.specs.Change.{Change}
 use Rattle.engine_spec.specs.PageSet.{with_page, with_pages}
 use Rattle.engine_spec.proofs.PageSets.{with_rises, with_has, with_keeps, with_cases}
 use Rattle.engine_spec.proofs.Conflicts.{contains_cases, contains_more}
-use Rattle.engine_spec.specs.Written.{Writes, numbers_from, trunks}
+use Rattle.engine_spec.specs.Written.{Writes, written, numbers_from, trunks}
 
 pub pages_rise : (set pages : List ℕ) → IsStrictlyIncreasing set → IsStrictlyIncreasing (with_pages set pages)
 pages_rise set [] rises = rises
@@ -34,7 +34,7 @@ pages_cases set (page ∷ pages) q there = elim (pages_cases (with_page set page
 
 -- page 1 and the changed pages, where no page is made
 pub writes_changed : (newest : Option PageMap) (size : ℕ) (change : Change) → change.fresh ≡ []
-    → Writes newest size change (with_pages (1 ∷ []) (map (λ image. image.page) change.changed))
+    → Writes newest size change (written change)
 writes_changed newest size change none =
     let changed = map (λ (image : PageImage). image.page) change.changed in
     let all : changed ++ (numbers_from (size + 1) (length change.fresh) ++ []) ≡ changed =

@@ -4,6 +4,7 @@ use Rattle.std.specs.List.Sorted.{IsStrictlyIncreasing}
 use Rattle.page_spec.specs.PageMap.{PageMap}
 use Rattle.engine_spec.specs.declared.commits.Commit.{Commit}
 use Rattle.engine_spec.specs.Change.{Change, new_pages}
+use Rattle.engine_spec.specs.PageSet.{with_pages}
 
 -- What a transaction hands in: its snapshot, the pages that it read, its change, the texts of its accepted statements, whether it
 -- wrote, and whose it is.
@@ -23,6 +24,10 @@ commit_of asked pages = record {
   wrote = pages;
   tail = asked.change.tail;
 }
+
+-- the pages that a commit writes that makes and frees no page: page 1 and the changed ones, in rising order
+abbrev pub written : Change → List ℕ
+written change = with_pages (1 ∷ []) (map (λ image. image.page) change.changed)
 
 -- so many numbers, from this one on
 abbrev pub numbers_from : ℕ → ℕ → List ℕ

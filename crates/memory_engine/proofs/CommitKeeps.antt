@@ -19,7 +19,7 @@ use Rattle.engine_spec.specs.Change.{laid}
 use Rattle.engine_spec.specs.History.{counts, NoConflict, statements_of, SnapsBefore}
 use Rattle.crash_spec.specs.Opening.{Opening}
 use Rattle.page_spec.specs.Header.{database_limit}
-use Rattle.engine_spec.specs.Written.{Submitted, commit_of, numbers_from}
+use Rattle.engine_spec.specs.Written.{Submitted, commit_of, numbers_from, written}
 use Rattle.engine_spec.specs.Events.{AcceptsCommit, RefusesCommit, IsCommitted, IsClear, pages_after}
 use Rattle.engine_spec.proofs.WrittenSets.{writes_changed}
 use Rattle.engine_spec.specs.Good.{MayLayOn}
@@ -30,7 +30,7 @@ use Rattle.page_face.specs.declared.prepared.Prepared.{Prepared}
 use Rattle.page_face.specs.Prepared.{submitted, change_in, IsFit, IsGood, IsHandedBack}
 use Rattle.page_face.specs.Calls.{IsLaidOn, IsLaidOnEach, CommitKeepsRuns}
 use Rattle.page_face.specs.Pins.{IsLive, KeepsPins}
-use Rattle.memory_engine.specs.Plain.{PlainState, IsPlain, IsOfMap, PlainLive, PlainRuns, MayAdd, Bars, IsFree, Adds, written, no_readers, newest_of, state_of, committed_state}
+use Rattle.memory_engine.specs.Plain.{PlainState, IsPlain, IsOfMap, PlainLive, PlainRuns, MayAdd, Bars, IsFree, Adds, no_readers, newest_of, state_of, committed_state}
 use Rattle.memory_engine.specs.PlainLaws.{held, plain_run}
 use Rattle.memory_engine.proofs.PlainCommits.{plain_more, agree_since, more_cases, newest_whole, pages_are, found_at, uncounted_at, may_add}
 

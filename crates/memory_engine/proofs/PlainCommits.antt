@@ -17,7 +17,7 @@ use Rattle.engine_spec.specs.Change.{Change, laid}
 use Rattle.engine_spec.specs.History.{counts, is_written, conflict, NoConflict}
 use Rattle.engine_spec.specs.TwoLogs.{frame_limit}
 use Rattle.page_spec.specs.Header.{database_limit}
-use Rattle.engine_spec.specs.Written.{commit_of}
+use Rattle.engine_spec.specs.Written.{commit_of, written}
 use Rattle.engine_spec.specs.Events.{pages_after, frames_after}
 use Rattle.engine_spec.specs.Good.{HasSizes}
 use Rattle.engine_spec.proofs.WrittenSets.{writes_changed}
@@ -26,7 +26,7 @@ use Rattle.engine_spec.proofs.Conflicts.{no_conflict}
 use Rattle.page_face.specs.declared.prepared.Prepared.{Prepared}
 use Rattle.page_face.specs.Prepared.{submitted, change_in, IsFit}
 use Rattle.page_face.specs.Pins.{IsLive}
-use Rattle.memory_engine.specs.Plain.{PlainState, IsPlain, PlainLive, LeadsOn, MayAdd, IsFree, written, newest_of, state_of, committed_state}
+use Rattle.memory_engine.specs.Plain.{PlainState, IsPlain, PlainLive, LeadsOn, MayAdd, IsFree, newest_of, state_of, committed_state}
 use Rattle.memory_engine.specs.PlainLaws.{held, inside}
 
 -- where none of some commits wrote a page, each of them didn't

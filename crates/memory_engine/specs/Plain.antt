@@ -1,5 +1,5 @@
 -- The engine in memory: its page maps, one for each commit and the first, and its history.
-use Rattle.std.specs.Prelude.{◌≡◌, ℕ, ◌+◌, ◌-◌, ◌^◌, ◌<◌, ◌≤◌, true, false, if◌then◌else◌, nat_lt, List, [], ◌∷◌, ◌++◌, length, take, Contains, Some, None, Result, Ok, Err, All, slice_get, slice_index, map}
+use Rattle.std.specs.Prelude.{◌≡◌, ℕ, ◌+◌, ◌-◌, ◌^◌, ◌<◌, ◌≤◌, true, false, if◌then◌else◌, nat_lt, List, [], ◌∷◌, ◌++◌, length, take, Contains, Some, None, Result, Ok, Err, All, slice_get, slice_index}
 use Rattle.std.specs.List.{slice_index_or}
 use Rattle.page_spec.specs.PageMap.{PageMap, Agree, page_sizes}
 use Rattle.engine_spec.specs.declared.pins.Pin.{Pin}
@@ -12,11 +12,10 @@ use Rattle.engine_spec.specs.declared.commits.Who.{Who}
 use Rattle.engine_spec.specs.declared.commits.CommitFault.TheVariants as fault
 use Rattle.engine_spec.specs.declared.commits.Mode.TheVariants as mode
 use Rattle.engine_spec.specs.History.{counts, statements_of, SnapsBefore, IsConflict, NoConflict}
-use Rattle.engine_spec.specs.PageSet.{with_pages}
 use Rattle.engine_spec.specs.Good.{HasSizes}
-use Rattle.engine_spec.specs.Change.{Change, laid}
+use Rattle.engine_spec.specs.Change.{laid}
 use Rattle.engine_spec.specs.State.{EngineState}
-use Rattle.engine_spec.specs.Written.{Submitted, commit_of, numbers_from}
+use Rattle.engine_spec.specs.Written.{Submitted, commit_of, written, numbers_from}
 use Rattle.engine_spec.specs.Events.{Fits, IsOver, pages_after, frames_after}
 use Rattle.page_face.specs.declared.prepared.Prepared.{Prepared}
 use Rattle.page_face.specs.Prepared.{change_in, submitted, IsHandedBack}
@@ -97,10 +96,6 @@ pub record PlainRuns (sound : PageMap → Type 0) (leads : PageMap → List (Lis
 -- the engine is whole, and these pins are of its maps
 abbrev pub PlainLive : PlainState → List Pin → Type 0
 PlainLive plain pins = IsPlain plain × All (IsOfMap plain) pins
-
--- the pages that a commit of this change writes: page 1 and the changed ones
-abbrev pub written : Change → List ℕ
-written change = with_pages (1 ∷ []) (map (λ image. image.page) change.changed)
 
 -- the engine after one more commit
 abbrev pub committed_state : PlainState → Submitted → PlainState
