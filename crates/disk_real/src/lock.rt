@@ -1,6 +1,5 @@
 // The lock that keeps a second process out.
-use std::fs;
-use std::io;
+use std::{fs, io};
 
 /// An open file that can be locked.
 pub trait LockFile {

@@ -50,7 +50,7 @@ pub(crate) fn open_log<R: Files>(rt: &R, path: &str) -> io::Result<Option<R::Fil
     };
     let opened = uninterrupted(|| file.metadata())?;
     match stands_at(rt, path)? {
-        Some(stands) if stands.dev() == opened.dev() && stands.ino() == opened.ino() => Ok(Some(file)),
+        Some(stands) if is_same(&stands, &opened) => Ok(Some(file)),
         _ => Err(io::Error::from(ErrorKind::FilesystemLoop)),
     }
 }
@@ -60,7 +60,8 @@ pub(crate) fn open_log<R: Files>(rt: &R, path: &str) -> io::Result<Option<R::Fil
 pub(crate) fn make_log<R: Files>(rt: &R, path: &str, database: &R::File) -> io::Result<R::File> {
     let wanted = uninterrupted(|| database.metadata())?;
     let mut how = OpenOptions::new();
-    how.read(true).write(true).create_new(true).mode(wanted.mode() & PERMISSIONS);
+    let mode = wanted.mode() & PERMISSIONS;
+    how.read(true).write(true).create_new(true).mode(mode);
     let log = uninterrupted(|| how.open(rt, path))?;
     let made = uninterrupted(|| log.metadata())?;
     if made.gid() != wanted.gid() {
@@ -70,10 +71,14 @@ pub(crate) fn make_log<R: Files>(rt: &R, path: &str, database: &R::File) -> io::
         unless_denied(uninterrupted(|| rt.lchown(path, Some(wanted.uid()), None)))?;
     }
     // The process's mask narrows what the log is made with.
-    if made.mode() & PERMISSIONS != wanted.mode() & PERMISSIONS {
-        uninterrupted(|| log.set_permissions(Permissions::from_mode(wanted.mode() & PERMISSIONS)))?;
+    if made.mode() & PERMISSIONS != mode {
+        uninterrupted(|| log.set_permissions(Permissions::from_mode(mode)))?;
     }
     Ok(log)
+}
+
+fn is_same(one: &Metadata, other: &Metadata) -> bool {
+    one.dev() == other.dev() && one.ino() == other.ino()
 }
 
 fn unless_denied(answer: io::Result<()>) -> io::Result<()> {

@@ -70,7 +70,11 @@ fn a_linked_log_is_refused(rt: HostRuntime) -> Result<(), Fail> {
         fs::write(&rt, "t_log_link/other", b"kept".as_slice())?;
         symlink(&rt, target, log)?;
         let mut disk = FileDisk::new(&rt, rt.alloc());
-        assert_eq!(rt; disk.attach(b"t_log_link/db"), Err(Failed), "{log} {target}");
+        assert_eq!(rt;
+            disk.attach(b"t_log_link/db"),
+            Err(Failed),
+            "{log} {target}"
+        );
     }
     // A link that is put there later isn't followed either.
     fs::remove_file(&rt, "t_log_link/db-wal")?;

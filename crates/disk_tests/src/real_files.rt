@@ -2,13 +2,11 @@
 use crate::room::{empty_folder, holds, remove_folder};
 use disk_face::{Disk, Failed, File, Salts};
 use disk_real::{FileDisk, NumberSalts};
-use std::fs;
 use std::fs::{OpenOptions, Permissions};
-use std::io;
 use std::os::unix::fs::PermissionsExt;
 use std::test::Fail;
-use std::thread;
 use std::time::Duration;
+use std::{fs, io, thread};
 
 #[test]
 fn real_files_keep_what_is_written(rt: HostRuntime) -> Result<(), Fail> {
@@ -68,15 +66,27 @@ fn a_file_that_cannot_be_written_is_refused(rt: HostRuntime) -> Result<(), Fail>
     assert_eq!(rt; disk.attach(b"/proc/self/exe"), Err(Failed));
     fs::write(&rt, "t_read_only/db", b"main".as_slice())?;
     fs::create_dir(&rt, "t_read_only/db-wal2")?;
-    assert_eq!(rt; disk.attach(b"t_read_only/db"), Err(Failed), "a folder in place of a log");
+    assert_eq!(rt;
+        disk.attach(b"t_read_only/db"),
+        Err(Failed),
+        "a folder in place of a log"
+    );
     fs::remove_dir(&rt, "t_read_only/db-wal2")?;
     for name in ["t_read_only/db", "t_read_only/db-wal"] {
         fs::write(&rt, name, b"".as_slice())?;
         fs::set_permissions(&rt, name, Permissions::from_mode(0o444))?;
         // Root may write it all the same.
-        let is_writable = OpenOptions::new().read(true).write(true).open(&rt, name).is_ok();
+        let is_writable = OpenOptions::new()
+            .read(true)
+            .write(true)
+            .open(&rt, name)
+            .is_ok();
         let mut disk = FileDisk::new(&rt, rt.alloc());
-        assert_eq!(rt; disk.attach(b"t_read_only/db").is_ok(), is_writable, "{name}");
+        assert_eq!(rt;
+            disk.attach(b"t_read_only/db").is_ok(),
+            is_writable,
+            "{name}"
+        );
         fs::set_permissions(&rt, name, Permissions::from_mode(0o644))?;
     }
     // What was refused may be attached once it can be.

@@ -93,12 +93,12 @@ fn a_put_is_one_write_that_is_made(rt: HostRuntime) -> Result<(), Fail> {
 
 /// A reader that gives what its turns say.
 #[derive(Drop)]
-struct Drops {
+struct Giver {
     turns: Turns,
     left: &'static [u8],
 }
 
-impl Read for Drops {
+impl Read for Giver {
     fn read(&mut self, buf: &mut [u8]) -> io::Result<usize> {
         match self.turns.next() {
             Turn::Moves(most) => {
@@ -114,7 +114,7 @@ impl Read for Drops {
 
 #[test]
 fn a_take_is_one_read_that_is_made(rt: HostRuntime) {
-    let mut reader = Drops {
+    let mut reader = Giver {
         turns: Turns {
             turns: [
                 Turn::Fails(ErrorKind::Interrupted),

@@ -31,7 +31,7 @@ struct Notes {
     free: Cell<[bool; 3]>,
     /// How often a file was opened for writing with a standard descriptor.
     standard_writers: Cell<u32>,
-    /// The file that a link takes the place of just before it is opened.
+    /// The file that a link takes the place of while it is opened.
     swapped: Cell<&'static str>,
 }
 
@@ -138,7 +138,7 @@ impl<'a> Watched<'a> {
         }
     }
 
-    /// Has a link to `other` take the place of this file just before it is opened.
+    /// Has a link to `other` take the place of this file while it is opened, and no longer.
     pub(crate) fn swap(&self, name: &'static str) {
         self.notes.swapped.set(name);
     }
@@ -161,6 +161,18 @@ impl<'a> Watched<'a> {
         let as_wanted = trace.as_str() == calls;
         trace.clear();
         as_wanted
+    }
+}
+
+impl<'a> Watched<'a> {
+    fn open_other(&self, how: &OpenOptions, path: &str) -> io::Result<File> {
+        let away = format!(in self.rt.alloc(); "{path}-away")?;
+        self.rt.rename(path, away.as_str())?;
+        self.rt.symlink("other", path)?;
+        let file = how.open(self.rt, path)?;
+        self.rt.remove_file(path)?;
+        self.rt.rename(away.as_str(), path)?;
+        Ok(file)
     }
 }
 
@@ -192,11 +204,11 @@ impl<'a> Files for Watched<'a> {
     fn open_file(&self, how: &OpenOptions, path: &str) -> io::Result<WatchedFile> {
         let name = name_of(path);
         self.notes.note(call_of(how), name)?;
-        if self.notes.swapped.get() == name {
-            self.rt.remove_file(path)?;
-            self.rt.symlink("other", path)?;
-        }
-        let file = how.open(self.rt, path)?;
+        let file = if self.notes.swapped.get() == name {
+            self.open_other(how, path)?
+        } else {
+            how.open(self.rt, path)?
+        };
         let number = self.notes.next_number();
         if how.asks_write() && number < 3 {
             let writers = self.notes.standard_writers.get();

@@ -44,9 +44,15 @@ fn no_database_has_a_standard_descriptor(rt: HostRuntime) -> Result<(), Fail> {
     empty_folder(&rt, "t_standard")?;
     fs::write(&rt, "t_standard/db", b"main".as_slice())?;
     for (closed, opened) in [
-        ([false, true, true], "open /\nopen /\nopen /\nupdate db\nlock db\n"),
+        (
+            [false, true, true],
+            "open /\nopen /\nopen /\nupdate db\nlock db\n",
+        ),
         ([true, false, false], "open /\nopen /\nupdate db\nlock db\n"),
-        ([true, true, true], "open /\nopen /\nopen /\nupdate db\nlock db\n"),
+        (
+            [true, true, true],
+            "open /\nopen /\nopen /\nupdate db\nlock db\n",
+        ),
     ] {
         let files = Watched::new(&rt, rt.alloc())?;
         files.close(closed);
@@ -146,13 +152,21 @@ fn each_failure_is_told(rt: HostRuntime) -> Result<(), Fail> {
         once("look", "db-wal2", ErrorKind::PermissionDenied, "A"),
         once("lock", "db", ErrorKind::WouldBlock, "A"),
         once("lock", "db", ErrorKind::Unsupported, "A"),
-        once("open", "db-journal", ErrorKind::PermissionDenied, "aJsrwyzmnk"),
+        once(
+            "open",
+            "db-journal",
+            ErrorKind::PermissionDenied,
+            "aJsrwyzmnk",
+        ),
         then(1, once("size", "db-wal", ErrorKind::Other, "ajSrwyzmnk")),
         // In the middle of a read and of a write.
         then(2, once("read", "db-wal", ErrorKind::Other, "ajsRwyzmnk")),
         once("seek", "db-wal", ErrorKind::Other, "ajsRwyzmnk"),
         then(1, once("seek", "db-wal", ErrorKind::Other, "ajsrWyzmnk")),
-        then(2, once("write", "db-wal", ErrorKind::StorageFull, "ajsrWyzmnk")),
+        then(
+            2,
+            once("write", "db-wal", ErrorKind::StorageFull, "ajsrWyzmnk"),
+        ),
         once("make", "db-wal2", ErrorKind::StorageFull, "ajsrwyzmNk"),
         // The second sync of the file would go well.
         once("sync", "db-wal", ErrorKind::Other, "ajsrwYZmnk"),
@@ -161,7 +175,12 @@ fn each_failure_is_told(rt: HostRuntime) -> Result<(), Fail> {
         // The folder's sync fails, and isn't made again for another file.
         once("sync", "t_faults", ErrorKind::Other, "ajsrwYZMnK"),
         // A folder that can't be opened, or of which the system knows no sync.
-        once("open", "t_faults", ErrorKind::PermissionDenied, "ajsrwyzmnk"),
+        once(
+            "open",
+            "t_faults",
+            ErrorKind::PermissionDenied,
+            "ajsrwyzmnk",
+        ),
         once("sync", "t_faults", ErrorKind::InvalidInput, "ajsrwyzmnk"),
         once("sync", "t_faults", ErrorKind::Unsupported, "ajsrwyzmnk"),
     ];
@@ -209,7 +228,13 @@ fn outcome(rt: &HostRuntime, row: Row) -> io::Result<String> {
     let mut letters = String::new(rt.alloc());
     let mut disk = FileDisk::new(&files, rt.alloc());
     let attached = disk.attach(b"t_faults/db");
-    push(&mut letters, "a", "A", attached == Ok(()), attached.is_err())?;
+    push(
+        &mut letters,
+        "a",
+        "A",
+        attached == Ok(()),
+        attached.is_err(),
+    )?;
     if attached.is_ok() {
         read_all(&mut disk, &mut letters)?;
         write_all(rt, &mut disk, &mut letters)?;
@@ -227,7 +252,11 @@ fn read_all(disk: &mut FileDisk<'_, Watched<'_>>, letters: &mut String) -> Resul
     push(letters, "r", "R", buf == *b"abc", read.is_err())
 }
 
-fn write_all(rt: &HostRuntime, disk: &mut FileDisk<'_, Watched<'_>>, letters: &mut String) -> io::Result<()> {
+fn write_all(
+    rt: &HostRuntime,
+    disk: &mut FileDisk<'_, Watched<'_>>,
+    letters: &mut String,
+) -> io::Result<()> {
     let wrote = disk.write_at(File::Log1, 1, b"xyz");
     let is_there = holds(rt, "t_faults/db-wal", b"axyz")?;
     push(letters, "w", "W", is_there, wrote.is_err())?;
@@ -249,10 +278,22 @@ fn synced(
     failed: &str,
 ) -> Result<(), AllocError> {
     let answer = disk.sync(file);
-    push(letters, well, failed, answer == Ok(()), answer == Err(Failed))
+    push(
+        letters,
+        well,
+        failed,
+        answer == Ok(()),
+        answer == Err(Failed),
+    )
 }
 
-fn push(letters: &mut String, well: &str, failed: &str, is_well: bool, is_failed: bool) -> Result<(), AllocError> {
+fn push(
+    letters: &mut String,
+    well: &str,
+    failed: &str,
+    is_well: bool,
+    is_failed: bool,
+) -> Result<(), AllocError> {
     let letter = if is_failed {
         failed
     } else if is_well {

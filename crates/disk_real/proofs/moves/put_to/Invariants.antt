@@ -1,5 +1,4 @@
 -- Writes that were interrupted have left the writer as it was.
-use Rattle.std.proofs.Common.{◌≡◌}
 use Rattle.std.specs.Io.KnownBytes.{Keeps}
 use Rattle.disk_real.proofs.moves.put_to.Given as goal
 

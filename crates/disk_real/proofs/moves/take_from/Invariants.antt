@@ -1,5 +1,4 @@
 -- Reads that were interrupted have left the reader as it was.
-use Rattle.std.proofs.Common.{◌≡◌}
 use Rattle.std.specs.Io.KnownBytes.{Keeps}
 use Rattle.disk_real.proofs.moves.take_from.Given as goal
 
