@@ -11,10 +11,10 @@ use crate::{RecordFault, Row};
 use be_fields::get_varint;
 use std::alloc::{AllocError, Global};
 
-/// Reads the record that the bytes begin with. Bytes after its values are ignored.
+/// Reads the record that fewer than 2^32 bytes begin with. Bytes after its values are ignored.
 ///
 /// The faults are those of [`RecordFault`], in their order. Nothing but a text's or a blob's bytes and the row itself is
-/// allocated.
+/// allocated. The form is that of SQLite's page "Database File Format" under "Record Format".
 pub fn read_record(alloc: Global, bytes: &[u8]) -> Result<Row, RecordFault>
     requires { length bytes.now < 2 ^ 32 }
     ensures read { IfOk result (IsRecord bytes.now) }
