@@ -3,8 +3,8 @@
 ghost use Rattle.std.specs.Prelude.{◌≡◌, ◌^◌, ◌<◌, ◌≤◌, ◌≢◌, ◌+◌, ◌++◌, ◌∷◌, [], ◌⊎◌, List, ℕ, length, take, drop, true, false, IfOk, IfErr, OnOk, IfSome, MatchOption};
 ghost use Rattle.page_spec.specs.Varint.{varint_size, varint_number};
 ghost use Rattle.value_form.specs.declared.value.Value.{Value as SqlValue};
-ghost use Rattle.value_form.specs.Record.{has_header, begins_with_type, HasTypes, IsRecord, IsRefused, IsShort, HasFloat};
-ghost use Rattle.value_form.specs.Reading.{IsTakenOf, IsOrMemory, IsLeft};
+ghost use Rattle.value_form.specs.Record.{has_header, begins_with_type, HasTypes, IsRecord, IsRefused, IsShort, HasFloat, IsOrMemory};
+ghost use Rattle.value_form.specs.Reading.{IsTakenOf, IsLeft};
 
 use crate::serial::{FLOAT, body_size, read_value};
 use crate::{RecordFault, Row};
