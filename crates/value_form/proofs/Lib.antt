@@ -1,0 +1,4 @@
+mod OrderLaws
+mod ReadingLaws
+mod SerialLaws
+mod WrittenLaws

@@ -1,0 +1,10 @@
+use Rattle.std.proofs.Common.{◌≡◌, ◌<◌, ◌^◌, take}
+use Rattle.std.specs.Int.Digits.{number_from_digits}
+use Rattle.value_form.proofs.serial.unsigned.Given as goal
+
+-- the number of the bytes so far
+abbrev pub invariant-loop-byte : goal.invariant-loop-byte
+invariant-loop-byte l = record {
+  spelled : l.number ≡ number_from_digits 256 (take l.byte-index l.bytes);
+  small : l.number < 256 ^ l.byte-index;
+}
