@@ -1,14 +1,15 @@
 -- The tokens of a text, as a function, are what it is cut into, and it is cut in one way.
 use Rattle.std.proofs.Common.{◌≡◌, ◌||◌, ◌⊎◌, inl, inr, ℕ, zero, suc, ◌+◌, ◌-◌, ◌<◌, ◌≤◌, Bool, true, false, if◌then◌else◌, List, [], ◌∷◌, length, drop, Option, Some, None, refl, sym, ◌∙◌, ap, subst, arith, ⊎_elim}
-use Rattle.std.specs.Prelude.{◌==◌, slice_index}
+use Rattle.std.specs.Prelude.{All, ◌==◌, slice_index}
 use Rattle.std.proofs.lemmas.List.{length-drop, append-nil}
 use Rattle.std.proofs.lemmas.Bool.{eqb-true}
+use Rattle.std.proofs.lemmas.List.Elements.{All-nil, All-cons}
 use Rattle.std.proofs.str.Laws.{order}
 use Rattle.sql_text.specs.declared.token.Token.{Token}
 use Rattle.sql_text.specs.declared.token.TokenKind.{TokenKind}
 use Rattle.sql_text.specs.declared.state.State.TheVariants as state
 use Rattle.sql_text.specs.Scan.{start, pick, ended_before, token_of, IsLongest, longest}
-use Rattle.sql_text.specs.Cut.{is_space, AreSpaces, IsCut, IsBadAt, Tokens, token_at, with_token, tokens_from, tokens_of, bad_of}
+use Rattle.sql_text.specs.Cut.{is_space, AreSpaces, IsCut, IsBadAt, IsWithin, Tokens, token_at, with_token, tokens_from, tokens_of, bad_of}
 use Rattle.sql_text.proofs.Cutting.{at_place, here, before, space_here, token_here, bad_here, end_here}
 use Rattle.sql_text.proofs.Longest.{scan_longest, longest_within, longest_some}
 
@@ -105,6 +106,22 @@ shown (byte ∷ bytes) at zero text is within short =
 
 pub shows : (text : List ℕ) → Shows text 0 (tokens_of text) (bad_of text)
 shows text = shown text 0 0 text refl (omega arith) (omega arith)
+
+-- ---- each token lies inside the text
+
+longest_inside : (text : List ℕ) (t : Token) → t.start < t.end → IsLongest (drop t.start text) (Some (t.kind, t.end - t.start)) → t.end ≤ length text
+longest_inside text t some long = omega (arith, longest_within (drop t.start text) (t.kind, t.end - t.start) long, length-drop t.start text, some)
+
+cut_within : (ts : List Token) (text : List ℕ) (from to : ℕ) → IsCut text from ts to → All (IsWithin text) ts
+cut_within [] text from to h = All-nil (IsWithin text)
+cut_within (t ∷ ts) text from to (spaces, some, long, rest) = All-cons (IsWithin text) t ts (some, longest_inside text t some long) (cut_within ts text t.end to rest)
+
+shows_within : (text : List ℕ) (ts : List Token) (bad : Option ℕ) → Shows text 0 ts bad → All (IsWithin text) ts
+shows_within text ts None h = cut_within ts text 0 (length text) h
+shows_within text ts (Some at) h = cut_within ts text 0 at h.0
+
+pub all_within : (text : List ℕ) → All (IsWithin text) (tokens_of text)
+all_within text = shows_within text (tokens_of text) (bad_of text) (shows text)
 
 -- ---- a text is cut in one way
 

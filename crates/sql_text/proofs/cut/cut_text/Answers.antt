@@ -1,8 +1,10 @@
 -- A space, a byte that begins no token, a token, and the end.
-use Rattle.std.proofs.Common.{◌≡◌, ◌+◌, ◌≤◌, [], ◌∷◌, length, drop, Some, None, sym, ◌∙◌, ap, arith}
+use Rattle.std.proofs.Common.{◌≡◌, ◌+◌, ◌≤◌, [], ◌∷◌, length, drop, Some, None, sym, ◌∙◌, ap, subst, arith}
+use Rattle.std.specs.Prelude.{All}
 use Rattle.std.proofs.lemmas.List.{length-drop, append-nil}
-use Rattle.sql_text.specs.Cut.{token_at}
+use Rattle.sql_text.specs.Cut.{IsWithin, token_at}
 use Rattle.sql_text.specs.Scan.{longest}
+use Rattle.sql_text.proofs.CutLaws.{all_within}
 use Rattle.sql_text.proofs.Cutting.{rest_is, here, before, space_here, bad_here, token_here, end_here, before_more}
 use Rattle.sql_text.proofs.cut.cut_text.Goals as goal
 
@@ -19,6 +21,14 @@ returns-in_default-clause-tokens c =
     let none : longest (drop c.loop-at.at text) ≡ None = ap longest (sym (rest_is text c.loop-at.at)) ∙ sym c.in_default.ensures.longest in
     sym (ap (λ r. r.found) (c.loop-at.invariant.0 ∙ ap (before c.loop-at.tokens.items) (bad_here text c.loop-at.at c.loop-at-test.true (sym c.if-is_space.ensures) none))
     ∙ append-nil c.loop-at.tokens.items)
+
+pub returns-in_default-clause-within : goal.returns-in_default-clause-within
+returns-in_default-clause-within c =
+    let text = c.args.text.now in
+    let none : longest (drop c.loop-at.at text) ≡ None = ap longest (sym (rest_is text c.loop-at.at)) ∙ sym c.in_default.ensures.longest in
+    subst (All (IsWithin text))
+    (ap (λ r. r.found) (c.loop-at.invariant.0 ∙ ap (before c.loop-at.tokens.items) (bad_here text c.loop-at.at c.loop-at-test.true (sym c.if-is_space.ensures) none))
+    ∙ append-nil c.loop-at.tokens.items) (all_within text)
 
 pub returns-in_default-clause-bad : goal.returns-in_default-clause-bad
 returns-in_default-clause-bad c =
@@ -55,3 +65,11 @@ returns-clause-bad c =
     let text = c.args.text.now in
     let end : c.loop-at.at ≡ length text = omega (arith, c.loop-at.invariant.1, c.loop-at-test.false) in
     sym (ap (λ r. r.bad) (c.loop-at.invariant.0 ∙ ap (before c.loop-at.tokens.items) (ap (here text) end ∙ end_here text)))
+
+pub returns-clause-within : goal.returns-clause-within
+returns-clause-within c =
+    let text = c.args.text.now in
+    let end : c.loop-at.at ≡ length text = omega (arith, c.loop-at.invariant.1, c.loop-at-test.false) in
+    subst (All (IsWithin text))
+    (ap (λ r. r.found) (c.loop-at.invariant.0 ∙ ap (before c.loop-at.tokens.items) (ap (here text) end ∙ end_here text)) ∙ append-nil c.loop-at.tokens.items)
+    (all_within text)
