@@ -1,0 +1,5 @@
+pub mod Exact
+pub mod Grammar
+pub mod Lists
+pub mod Lookahead
+pub mod Reading
