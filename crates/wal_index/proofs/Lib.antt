@@ -1,0 +1,4 @@
+pub mod Orders
+pub mod Found
+pub mod Adding
+pub mod Least

@@ -1,0 +1,4 @@
+pub mod Frames
+pub mod Order
+pub mod Parts
+pub mod Commits
