@@ -1,5 +1,5 @@
 -- The commits of a log, whose frames stand behind one another.
-use Rattle.std.specs.Prelude.{◌≡◌, ℕ, ◌-◌, ◌<◌, ◌≤◌, ◌==◌, ◌&&◌, not, Bool, true, false, if◌then◌else◌, List, length, slice_index, Option, MatchOption, Contains}
+use Rattle.std.specs.Prelude.{◌≡◌, ℕ, zero, suc, ◌-◌, ◌<◌, ◌≤◌, ◌==◌, ◌&&◌, not, Bool, true, false, if◌then◌else◌, List, length, slice_index, Option, MatchOption, Contains}
 use Rattle.wal_index.specs.Frames.{IsFrameOf}
 
 -- The commits of a log as callers see them: their numbers, in order; for each how many frames the log has up to its last one; the numbers of those
@@ -12,7 +12,8 @@ pub record CommitList : Type 0 where
 
 -- how many frames stand before the first of the commit at this place
 abbrev pub start_of : List ℕ → ℕ → ℕ
-start_of ends place = if place == 0 then 0 else slice_index ends (place - 1)
+start_of ends zero = 0
+start_of ends (suc place) = slice_index ends place
 
 -- the commit with this number has the frame
 pub record HasFrame (numbers ends : List ℕ) (frame number : ℕ) : Type 0 where
@@ -28,6 +29,7 @@ pub record AreCommits (numbers ends tails : List ℕ) : Type 0 where
   pub numbers_rise : (one other : ℕ) → one < other → other < length numbers → slice_index numbers one < slice_index numbers other
   pub ends_rise : (one other : ℕ) → one < other → other < length ends → slice_index ends one < slice_index ends other
   pub some_frame : (place : ℕ) → place < length ends → 0 < slice_index ends place
+  pub tails_among : (place : ℕ) → place < length tails → Contains numbers (slice_index tails place)
   pub tails_rise : (one other : ℕ) → one < other → other < length tails → slice_index tails one < slice_index tails other
 
 -- how many of some rising numbers are at most this one: those below the answer

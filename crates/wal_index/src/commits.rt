@@ -4,6 +4,7 @@
 // binary search. A commit takes 12 bytes, and 8 more where it changed page 1.
 ghost use Rattle.std.specs.Prelude.{◌≡◌, ℕ, ◌+◌, ◌-◌, ◌<◌, ◌≤◌, List, [], ◌∷◌, ◌++◌, length, slice_index, if◌then◌else◌, OnOk, Option, MatchOption, IfNone, IfSome};
 ghost use Rattle.wal_index.specs.Commits.{AreCommits, HasFrame, IsCountUpTo, FirstAbove, start_of};
+ghost use Rattle.wal_index.specs.Index.{IsAbove};
 
 use std::alloc::{AllocError, Global};
 use std::marker::Model;
@@ -73,9 +74,27 @@ impl LogCommits {
         self.tails.clear();
     }
 
+    /// Adds a commit whose last frame is the log's last one. It takes no memory: there is room.
+    pub fn push(&mut self, number: u64, end: u32, tail: bool)
+        requires room { 0 < self.old.room }
+        requires number { IsAbove self.old.numbers number }
+        requires end { IsAbove self.old.ends end }
+        requires some { 0 < end }
+        ensures numbers { self.new.numbers ≡ self.old.numbers ++ number ∷ [] }
+        ensures ends { self.new.ends ≡ self.old.ends ++ end ∷ [] }
+        ensures tails { self.new.tails ≡ (if tail then self.old.tails ++ number ∷ [] else self.old.tails) }
+    {
+        self.numbers.push_reserved(number);
+        self.ends.push_reserved(end);
+        if tail {
+            self.tails.push_reserved(number);
+        }
+    }
+
     /// How many of the log's frames are of commits with a number of at most `n`.
     pub fn end_of(&self, n: u64) -> u32
-        ensures { (count : ℕ) × IsCountUpTo self.now.numbers n count × (result ≡ start_of self.now.ends count) }
+        ensures end { (count : ℕ) × IsCountUpTo self.now.numbers n count × (result ≡ start_of self.now.ends count) }
+        ensures commits { AreCommits self.now.numbers self.now.ends self.now.tails }
     {
         let count = count_up_to(&self.numbers, n);
         if count == 0 { 0 } else { self.ends[count - 1] }

@@ -105,7 +105,8 @@ impl LogFrames {
 
     /// How many frames there are.
     pub fn len(&self) -> usize
-        ensures { result ≡ length self.now.pages }
+        ensures count { result ≡ length self.now.pages }
+        ensures fits { result < 2 ^ 32 }
     {
         self.pages.len()
     }
