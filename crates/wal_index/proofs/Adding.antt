@@ -1,5 +1,5 @@
 -- The order with one frame more: its entry is put in at its rank, and those from there on move up by one.
-use Rattle.std.proofs.Common.{◌≡◌, ◌≢◌, ℕ, ◌+◌, ◌-◌, ◌*◌, ◌/◌, ◌<◌, ◌≤◌, ◌⊎◌, List, [], ◌∷◌, ◌++◌, length, slice_index, insert, get_or, length-append, arith, inl, inr, refl, sym, subst, ap, ◌∙◌}
+use Rattle.std.proofs.Common.{◌≡◌, ℕ, ◌+◌, ◌-◌, ◌<◌, ◌≤◌, List, [], ◌∷◌, ◌++◌, length, slice_index, insert, get_or, length-append, arith, inl, inr, refl, sym, subst, ap, ◌∙◌}
 use Rattle.std.proofs.Math.Nat.{eq-or-lt_of_le}
 use Rattle.std.proofs.Math.Decide.{dec_lt}
 use Rattle.std.proofs.lemmas.List.Edits.{length-insert, get_or-insert_at, get_or-insert_below, get_or-insert_above}
@@ -36,17 +36,19 @@ names_now : {pages order : List ℕ} {page start rank : ℕ} {more ordered : Lis
 names_now {pages} {order} {page} {start} {rank} {more} {ordered} added entry within =
     let there = rank_there added in
     elim (dec_lt entry rank) [
-      yes low ↦ Below low (ap (λ far. part_start entry + far) (added.below entry low))
-    | no high ↦ elim (eq-or-lt_of_le (at_least high)) [
-        inl same ↦ Here (sym same) (ap (λ at. part_start at + slice_index ordered at) (sym same) ∙ (ap (λ far. part_start rank + far) added.here ∙ whole there))
-      | inr above ↦ Behind above (ap (λ far. part_start entry + far) (added.behind entry above) ∙ ap (λ from. from + slice_index order (entry - 1)) (same_start there above))
+      | yes low ↦ Below low (ap (λ far. part_start entry + far) (added.below entry low))
+      | no high ↦ elim (eq-or-lt_of_le (at_least high)) [
+        | inl same ↦ Here (sym same) (ap (λ at. part_start at + slice_index ordered at) (sym same) ∙ (ap (λ far. part_start rank + far) added.here ∙ whole there))
+        | inr above ↦ Behind above (ap (λ far. part_start entry + far) (added.behind entry above) ∙ ap (λ from. from + slice_index order (entry - 1)) (same_start there above))
       ]
     ]
   where
     at_least : (entry < rank → ⊥) → rank ≤ entry
     at_least not = omega arith
+
     whole : (start ≤ rank) × (rank ≤ length pages) × (length pages < start + 4096) × (part_start start ≡ start) → part_start rank + (length pages - start) ≡ length pages
     whole there = omega (arith, there.0, there.1, there.2, there.3)
+
     same_start : (start ≤ rank) × (rank ≤ length pages) × (length pages < start + 4096) × (part_start start ≡ start) → rank < entry → part_start entry ≡ part_start (entry - 1)
     same_start there above = omega (arith, there.0, there.1, there.2, there.3)
 
@@ -68,8 +70,8 @@ new_before : {pages order : List ℕ} {page start rank : ℕ} {more ordered : Li
     → (other : ℕ) → other < length pages → (IsBefore pages other page (length pages) → ⊥) → IsBefore more (length pages) (slice_index more other) other
 new_before {pages} {order} {page} added other there not =
     elim (dec_lt page (slice_index pages other)) [
-      yes less ↦ inl (omega (arith, added.pages_same other there, added.page_last))
-    | no few ↦ elim (eq-or-lt_of_le (at_most few)) [ inl same ↦ absurd (not (inr (same, there))) | inr less ↦ absurd (not (inl less)) ]
+      | yes less ↦ inl (omega (arith, added.pages_same other there, added.page_last))
+      | no few ↦ elim (eq-or-lt_of_le (at_most few)) [ inl same ↦ absurd (not (inr (same, there))) | inr less ↦ absurd (not (inl less)) ]
     ]
   where
     at_most : (page < slice_index pages other → ⊥) → slice_index pages other ≤ page
@@ -83,8 +85,8 @@ rising_now : {pages order : List ℕ} {page start rank : ℕ} {more ordered : Li
 rising_now {pages} {order} {page} {start} {rank} {more} added one other one_name other_name less within part (Below one_low one_is) (Below other_low other_is) =
     let there : other < length pages = omega (arith, added.ranks.to) in
     moved one_name other_name one_is other_is
-      (before_now added (named order one) (named order other) (added.before.within one (omega arith)) (added.before.within other there)
-        (added.before.rising one other less there part))
+    (before_now added (named order one) (named order other) (added.before.within one (omega arith)) (added.before.within other there)
+    (added.before.rising one other less there part))
   where
     moved : (one_name other_name : ℕ) → one_name ≡ named order one → other_name ≡ named order other
         → IsBefore more (named order one) (slice_index more (named order other)) (named order other) → IsBefore more one_name (slice_index more other_name) other_name
@@ -94,23 +96,23 @@ rising_now {pages} {order} {page} {start} {rank} {more} added one other one_name
     let there = rank_there added in
     let from : start ≤ one = omega (arith, there.0, there.1, there.2, there.3) in
     subst (λ at. IsBefore more at (slice_index more other_name) other_name) (sym one_is)
-      (subst (λ at. IsBefore more (named order one) (slice_index more at) at) (sym other_is)
-        (before_new added (named order one) (added.before.within one (omega (arith, there.1))) (added.ranks.below one from one_low)))
+    (subst (λ at. IsBefore more (named order one) (slice_index more at) at) (sym other_is)
+    (before_new added (named order one) (added.before.within one (omega (arith, there.1))) (added.ranks.below one from one_low)))
 rising_now {pages} {order} {page} {start} {rank} {more} added one other one_name other_name less within part (Below one_low one_is) (Behind other_above other_is) =
     let there = rank_there added in
     let inside : other - 1 < length pages = omega arith in
     let same : part_start one ≡ part_start (other - 1) = omega (arith, there.0, there.1, there.2, there.3) in
     subst (λ at. IsBefore more at (slice_index more other_name) other_name) (sym one_is)
-      (subst (λ at. IsBefore more (named order one) (slice_index more at) at) (sym other_is)
-        (before_now added (named order one) (named order (other - 1)) (added.before.within one (omega (arith, there.1))) (added.before.within (other - 1) inside)
-          (added.before.rising one (other - 1) (omega arith) inside same)))
+    (subst (λ at. IsBefore more (named order one) (slice_index more at) at) (sym other_is)
+    (before_now added (named order one) (named order (other - 1)) (added.before.within one (omega (arith, there.1))) (added.before.within (other - 1) inside)
+    (added.before.rising one (other - 1) (omega arith) inside same)))
 rising_now added one other one_name other_name less within part (Here one_at one_is) (Below other_low other_is) = absurd (omega arith)
 rising_now added one other one_name other_name less within part (Here one_at one_is) (Here other_at other_is) = absurd (omega arith)
 rising_now {pages} {order} {page} {start} {rank} {more} added one other one_name other_name less within part (Here one_at one_is) (Behind other_above other_is) =
     let inside : other - 1 < length pages = omega arith in
     subst (λ at. IsBefore more at (slice_index more other_name) other_name) (sym one_is)
-      (subst (λ at. IsBefore more (length pages) (slice_index more at) at) (sym other_is)
-        (new_before added (named order (other - 1)) (added.before.within (other - 1) inside) (added.ranks.above (other - 1) (omega arith) inside)))
+    (subst (λ at. IsBefore more (length pages) (slice_index more at) at) (sym other_is)
+    (new_before added (named order (other - 1)) (added.before.within (other - 1) inside) (added.ranks.above (other - 1) (omega arith) inside)))
 rising_now added one other one_name other_name less within part (Behind one_above one_is) (Below other_low other_is) = absurd (omega arith)
 rising_now added one other one_name other_name less within part (Behind one_above one_is) (Here other_at other_is) = absurd (omega arith)
 rising_now {pages} {order} {page} {start} {rank} {more} added one other one_name other_name less within part (Behind one_above one_is) (Behind other_above other_is) =
@@ -118,9 +120,9 @@ rising_now {pages} {order} {page} {start} {rank} {more} added one other one_name
     let inside : other - 1 < length pages = omega arith in
     let same : part_start (one - 1) ≡ part_start (other - 1) = omega (arith, there.0, there.1, there.2, there.3) in
     subst (λ at. IsBefore more at (slice_index more other_name) other_name) (sym one_is)
-      (subst (λ at. IsBefore more (named order (one - 1)) (slice_index more at) at) (sym other_is)
-        (before_now added (named order (one - 1)) (named order (other - 1)) (added.before.within (one - 1) (omega arith)) (added.before.within (other - 1) inside)
-          (added.before.rising (one - 1) (other - 1) (omega arith) inside same)))
+    (subst (λ at. IsBefore more (named order (one - 1)) (slice_index more at) at) (sym other_is)
+    (before_now added (named order (one - 1)) (named order (other - 1)) (added.before.within (one - 1) (omega arith)) (added.before.within (other - 1) inside)
+    (added.before.rising (one - 1) (other - 1) (omega arith) inside same)))
 
 -- what an entry names is there
 within_now : {pages order : List ℕ} {page start rank : ℕ} {more ordered : List ℕ} → HasAdded pages order page start rank more ordered
@@ -135,10 +137,10 @@ near_now : {pages order : List ℕ} {page start rank : ℕ} {more ordered : List
 near_now {pages} {order} {page} {start} {rank} {more} {ordered} added entry inside =
     let there = rank_there added in
     elim (dec_lt entry rank) [
-      yes low ↦ omega (arith, added.below entry low, added.before.near entry (omega (arith, added.ranks.to)))
-    | no high ↦ elim (eq-or-lt_of_le (at_least high)) [
-        inl same ↦ omega (arith, ap (slice_index ordered) same, added.here, there.2)
-      | inr above ↦ omega (arith, added.behind entry above, added.before.near (entry - 1) (omega arith))
+      | yes low ↦ omega (arith, added.below entry low, added.before.near entry (omega (arith, added.ranks.to)))
+      | no high ↦ elim (eq-or-lt_of_le (at_least high)) [
+        | inl same ↦ omega (arith, ap (slice_index ordered) same, added.here, there.2)
+        | inr above ↦ omega (arith, added.behind entry above, added.before.near (entry - 1) (omega arith))
       ]
     ]
   where
@@ -150,20 +152,23 @@ all_now : {pages order : List ℕ} {page start rank : ℕ} {more ordered : List 
     → (place : ℕ) → place < length pages + 1 → (entry : ℕ) × (entry < length pages + 1) × (part_start entry ≡ part_start place) × (named ordered entry ≡ place)
 all_now {pages} {order} {page} {start} {rank} {more} {ordered} added place inside =
     elim (eq-or-lt_of_le (at_most inside)) [
-      inl same ↦ (rank, omega (arith, added.ranks.to), omega (arith, rank_there added), is_new same (names_now added rank added.ranks.to))
-    | inr old ↦ moved (added.before.all place old)
+      | inl same ↦ (rank, omega (arith, added.ranks.to), omega (arith, rank_there added), is_new same (names_now added rank added.ranks.to))
+      | inr old ↦ moved (added.before.all place old)
     ]
   where
     at_most : place < length pages + 1 → place ≤ length pages
     at_most less = omega arith
+
     is_new : place ≡ length pages → NamesNow pages order start rank rank (named ordered rank) → named ordered rank ≡ place
     is_new same (Below low is) = absurd (omega arith)
     is_new same (Here at is) = is ∙ sym same
     is_new same (Behind above is) = absurd (omega arith)
+
     is_old : (entry : ℕ) → entry < rank → NamesNow pages order start rank entry (named ordered entry) → named ordered entry ≡ named order entry
     is_old entry less (Below low is) = is
     is_old entry less (Here at is) = absurd (omega arith)
     is_old entry less (Behind above is) = absurd (omega arith)
+
     is_moved : (entry : ℕ) → rank ≤ entry → NamesNow pages order start rank (entry + 1) (named ordered (entry + 1)) → named ordered (entry + 1) ≡ named order entry
     is_moved entry more (Below low is) = absurd (omega arith)
     is_moved entry more (Here at is) = absurd (omega arith)
@@ -171,16 +176,17 @@ all_now {pages} {order} {page} {start} {rank} {more} {ordered} added place insid
       where
         less_one : (entry : ℕ) → entry + 1 - 1 ≡ entry
         less_one entry = omega arith
+
     moved : ((entry : ℕ) × (entry < length pages) × (part_start entry ≡ part_start place) × (named order entry ≡ place))
         → (entry : ℕ) × (entry < length pages + 1) × (part_start entry ≡ part_start place) × (named ordered entry ≡ place)
     moved found = elim (dec_lt found.0 rank) [
-        yes low ↦ (found.0, omega (arith, found.1), found.2, is_old found.0 low (names_now added found.0 (omega (arith, found.1))) ∙ found.3)
+      | yes low ↦ (found.0, omega (arith, found.1), found.2, is_old found.0 low (names_now added found.0 (omega (arith, found.1))) ∙ found.3)
       | no high ↦
           let there = rank_there added in
           let more : rank ≤ found.0 = omega arith in
           let same : part_start (found.0 + 1) ≡ part_start found.0 = omega (arith, there.0, there.2, there.3, found.1) in
           (found.0 + 1, omega (arith, found.1), same ∙ found.2, is_moved found.0 more (names_now added (found.0 + 1) (omega (arith, found.1))) ∙ found.3)
-      ]
+    ]
 
 -- the order with the new frame is one
 pub ordered_more : {pages order : List ℕ} {page start rank : ℕ} {more ordered : List ℕ} → HasAdded pages order page start rank more ordered → AreOrdered more ordered

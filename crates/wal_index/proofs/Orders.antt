@@ -1,5 +1,5 @@
 -- Laws of the order in which the frames of a part are kept.
-use Rattle.std.proofs.Common.{◌≡◌, ℕ, ◌+◌, ◌*◌, ◌/◌, ◌<◌, ◌≤◌, ◌⊎◌, List, length, slice_index, arith, inl, inr, sym, subst}
+use Rattle.std.proofs.Common.{◌≡◌, ℕ, ◌+◌, ◌<◌, ◌≤◌, List, length, slice_index, arith, inl, inr, sym, subst}
 use Rattle.std.proofs.Math.Nat.{eq-or-lt_of_le}
 use Rattle.wal_index.specs.Order.{AreOrdered, IsBefore, part_start, named}
 
@@ -30,8 +30,8 @@ pub below_rank : (pages order : List ℕ) (start end page place middle : ℕ) �
     → (other : ℕ) → start ≤ other → other < middle + 1 → IsBefore pages (named order other) page place
 below_rank pages order start end page place middle ordered is few within inside before other from less =
     elim (eq-or-lt_of_le (le_of less)) [
-      inl same ↦ subst (λ entry. IsBefore pages (named order entry) page place) (sym same) before
-    | inr under ↦ rises pages order start end page place other middle ordered is few within from under inside before
+      | inl same ↦ subst (λ entry. IsBefore pages (named order entry) page place) (sym same) before
+      | inr under ↦ rises pages order start end page place other middle ordered is few within from under inside before
     ]
   where
     le_of : other < middle + 1 → other ≤ middle
@@ -43,8 +43,8 @@ pub above_rank : (pages order : List ℕ) (start end page place middle : ℕ) �
     → (other : ℕ) → middle ≤ other → other < end → IsBefore pages (named order other) page place → ⊥
 above_rank pages order start end page place middle ordered is few within from not other more to before =
     elim (eq-or-lt_of_le more) [
-      inl same ↦ not (subst (λ entry. IsBefore pages (named order entry) page place) (sym same) before)
-    | inr above ↦ not (rises pages order start end page place middle other ordered is few within from above to before)
+      | inl same ↦ not (subst (λ entry. IsBefore pages (named order entry) page place) (sym same) before)
+      | inr above ↦ not (rises pages order start end page place middle other ordered is few within from above to before)
     ]
 
 -- each place of a part is named by an entry of that part

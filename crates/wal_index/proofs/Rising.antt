@@ -1,6 +1,5 @@
 -- Rising lists with one number more.
-use Rattle.std.proofs.Common.{◌≡◌, ℕ, ◌+◌, ◌<◌, ◌≤◌, List, [], ◌∷◌, ◌++◌, length, slice_index, length-append, Contains, arith, inl, inr, refl, sym, ◌∙◌, ap, subst}
-use Rattle.std.proofs.Math.Decide.{dec_lt}
+use Rattle.std.proofs.Common.{◌≡◌, ℕ, ◌+◌, ◌<◌, ◌≤◌, List, [], ◌∷◌, ◌++◌, length, slice_index, length-append, Contains, arith, inl, inr, sym, ◌∙◌, ap, subst}
 use Rattle.std.proofs.Math.Nat.{eq-or-lt_of_le}
 use Rattle.std.proofs.Math.ListN.{get_or-append}
 use Rattle.std.proofs.Math.Seq.{get_or-append_seam}
@@ -15,9 +14,9 @@ pub data IsOldOrLast (xs : List ℕ) (x at : ℕ) : Type 0 where
 
 pub old_or_last : (xs : List ℕ) (x at : ℕ) → at < length (xs ++ x ∷ []) → IsOldOrLast xs x at
 old_or_last xs x at inside = elim (eq-or-lt_of_le (at_most (length-append xs (x ∷ [])))) [
-    inl same ↦ Last same (ap (λ at. slice_index (xs ++ x ∷ []) at) same ∙ get_or-append_seam xs x [] 0)
+  | inl same ↦ Last same (ap (λ at. slice_index (xs ++ x ∷ []) at) same ∙ get_or-append_seam xs x [] 0)
   | inr less ↦ Old less (get_or-append xs (x ∷ []) 0 at less)
-  ]
+]
   where
     at_most : length (xs ++ x ∷ []) ≡ length xs + length (x ∷ []) → at ≤ length xs
     at_most count = omega (arith, inside)

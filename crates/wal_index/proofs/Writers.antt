@@ -1,10 +1,10 @@
 -- The first commit above a number that wrote a page, from the first frame behind the earlier commits.
-use Rattle.std.proofs.Common.{◌≡◌, ℕ, zero, suc, ◌+◌, ◌-◌, ◌<◌, ◌≤◌, ◌==◌, Bool, true, false, if◌then◌else◌, List, length, slice_index, Option, Some, None, MatchOption, min, arith, inl, inr, refl, sym, ◌∙◌, ap, subst}
+use Rattle.std.proofs.Common.{◌≡◌, ℕ, zero, suc, ◌-◌, ◌<◌, ◌≤◌, Bool, true, false, List, length, slice_index, Option, Some, None, MatchOption, min, arith, inl, inr, ap, subst}
 use Rattle.std.proofs.Math.Decide.{dec_lt}
 use Rattle.std.proofs.Math.Nat.{eq-or-lt_of_le}
-use Rattle.wal_index.specs.Frames.{IsFrameOf, IsFirstFrame, FindsFirst}
-use Rattle.wal_index.specs.Commits.{AreCommits, HasFrame, IsCountUpTo, IsFirstAbove, FirstAbove, start_of}
-use Rattle.wal_index.specs.Index.{Indexed, IndexedLog, Wrote, HasWritten, IsFirstWriter, FirstWriter, FirstWriterOfBoth}
+use Rattle.wal_index.specs.Frames.{IsFirstFrame, FindsFirst}
+use Rattle.wal_index.specs.Commits.{AreCommits, HasFrame, IsCountUpTo, FirstAbove, start_of}
+use Rattle.wal_index.specs.Index.{Indexed, IndexedLog, Wrote, FirstWriter, FirstWriterOfBoth}
 use Rattle.wal_index.specs.Parts.{lesser_of}
 
 -- of those that changed page 1
@@ -15,9 +15,9 @@ tail_writer log n page (Some number) above = record { wrote = above.there; above
 -- an end isn't less than that of an earlier commit
 ends_grow : (numbers ends tails : List ℕ) → AreCommits numbers ends tails → (one other : ℕ) → one ≤ other → other < length ends → slice_index ends one ≤ slice_index ends other
 ends_grow numbers ends tails are one other more inside = elim (eq-or-lt_of_le more) [
-    inl same ↦ subst (λ at. slice_index ends one ≤ slice_index ends at) same (same_least (slice_index ends one))
+  | inl same ↦ subst (λ at. slice_index ends one ≤ slice_index ends at) same (same_least (slice_index ends one))
   | inr less ↦ omega (arith, are.ends_rise one other less inside)
-  ]
+]
   where
     same_least : (n : ℕ) → n ≤ n
     same_least n = omega arith
@@ -41,8 +41,12 @@ start_behind : (numbers ends tails : List ℕ) → AreCommits numbers ends tails
     → start_of ends count ≤ start_of ends place
 start_behind numbers ends tails are zero place more inside = omega arith
 start_behind numbers ends tails are (suc count) place more inside =
-    omega (arith, start_is ends (suc count) (omega arith), start_is ends place (omega arith),
-      ends_grow numbers ends tails are (suc count - 1) (place - 1) (omega arith) (omega (arith, are.count)))
+    omega (
+      arith,
+      start_is ends (suc count) (omega arith),
+      start_is ends place (omega arith),
+      ends_grow numbers ends tails are (suc count - 1) (place - 1) (omega arith) (omega (arith, are.count)),
+    )
 
 -- a commit above a number isn't one of those up to it
 place_above : (numbers : List ℕ) (n count place : ℕ) → IsCountUpTo numbers n count → n < slice_index numbers place → (place < count → ⊥)
@@ -59,9 +63,9 @@ frame_behind numbers ends tails are n count frame number counts has above =
 pub none_writes : (log : IndexedLog) (n page count : ℕ) → AreCommits log.numbers log.ends log.tails → IsCountUpTo log.numbers n count
     → FindsFirst log.pages page (start_of log.ends count) None → FirstWriter false log n page None
 none_writes log n page count are counts none other wrote = elim (dec_lt n other) [
-    yes above ↦ absurd (none wrote.frame (frame_behind log.numbers log.ends log.tails are n count wrote.frame other counts wrote.has above) wrote.is)
+  | yes above ↦ absurd (none wrote.frame (frame_behind log.numbers log.ends log.tails are n count wrote.frame other counts wrote.has above) wrote.is)
   | no not ↦ omega arith
-  ]
+]
 
 -- the first frame of the page behind is of the first commit that wrote it, or of none
 pub first_writes : (log : IndexedLog) (n page count frame : ℕ) (found : Option ℕ) → AreCommits log.numbers log.ends log.tails → IsCountUpTo log.numbers n count
@@ -69,27 +73,27 @@ pub first_writes : (log : IndexedLog) (n page count frame : ℕ) (found : Option
     → MatchOption found ((place : ℕ) → place < length log.ends → slice_index log.ends place < frame) (HasFrame log.numbers log.ends frame)
     → FirstWriter false log n page found
 first_writes log n page count frame None are counts first none = λ other wrote. elim (dec_lt n other) [
-    yes above ↦
+  | yes above ↦
       let behind = frame_behind log.numbers log.ends log.tails are n count wrote.frame other counts wrote.has above in
       absurd (omega (arith, first.first wrote.frame behind wrote.is, wrote.has.to, none wrote.has.place (omega (arith, are.count, wrote.has.there))))
   | no not ↦ omega arith
-  ]
+]
 first_writes log n page count frame (Some number) are counts first has =
     let high = place_behind log.numbers log.ends log.tails are count has.place frame counts.few first.later has.to in
     record {
       wrote = record { frame = frame; is = first.is; has = has };
       above = omega (arith, has.number_is, counts.above has.place (omega arith) has.there);
       first = λ other wrote above.
-        let behind = frame_behind log.numbers log.ends log.tails are n count wrote.frame other counts wrote.has above in
-        let later : frame ≤ wrote.frame = first.first wrote.frame behind wrote.is in
-        elim (dec_lt wrote.has.place has.place) [
-          yes low ↦ absurd (place_behind log.numbers log.ends log.tails are has.place wrote.has.place frame (omega (arith, has.there)) has.from
-              (omega (arith, wrote.has.to)) low)
-        | no not ↦ elim (eq-or-lt_of_le (at_least not)) [
-            inl same ↦ omega (arith, has.number_is, wrote.has.number_is, ap (slice_index log.numbers) same)
-          | inr less ↦ omega (arith, has.number_is, wrote.has.number_is, are.numbers_rise has.place wrote.has.place less wrote.has.there)
-          ]
-        ];
+          let behind = frame_behind log.numbers log.ends log.tails are n count wrote.frame other counts wrote.has above in
+          let later : frame ≤ wrote.frame = first.first wrote.frame behind wrote.is in
+          elim (dec_lt wrote.has.place has.place) [
+            | yes low ↦ absurd (place_behind log.numbers log.ends log.tails are has.place wrote.has.place frame (omega (arith, has.there)) has.from
+                (omega (arith, wrote.has.to)) low)
+            | no not ↦ elim (eq-or-lt_of_le (at_least not)) [
+              | inl same ↦ omega (arith, has.number_is, wrote.has.number_is, ap (slice_index log.numbers) same)
+              | inr less ↦ omega (arith, has.number_is, wrote.has.number_is, are.numbers_rise has.place wrote.has.place less wrote.has.there)
+            ]
+          ];
     }
   where
     at_least : {one other : ℕ} → (one < other → ⊥) → other ≤ one
@@ -112,21 +116,22 @@ writer_of_both tail index n page (Some number) None one other = record {
   first2 = λ number wrote above. absurd (omega (arith, other number wrote));
 }
 writer_of_both tail index n page (Some number) (Some next) one other = elim (dec_lt number next) [
-    yes less ↦ record {
-      wrote = inl (subst (Wrote tail index.log1 page) (least_is less) one.wrote);
-      above = omega (arith, one.above, other.above);
-      first1 = λ later wrote above. omega (arith, one.first later wrote above);
-      first2 = λ later wrote above. omega (arith, other.first later wrote above);
-    }
+  | yes less ↦ record {
+    wrote = inl (subst (Wrote tail index.log1 page) (least_is less) one.wrote);
+    above = omega (arith, one.above, other.above);
+    first1 = λ later wrote above. omega (arith, one.first later wrote above);
+    first2 = λ later wrote above. omega (arith, other.first later wrote above);
+  }
   | no more ↦ record {
-      wrote = inr (subst (Wrote tail index.log2 page) (least_too more) other.wrote);
-      above = omega (arith, one.above, other.above);
-      first1 = λ later wrote above. omega (arith, one.first later wrote above);
-      first2 = λ later wrote above. omega (arith, other.first later wrote above);
-    }
-  ]
+    wrote = inr (subst (Wrote tail index.log2 page) (least_too more) other.wrote);
+    above = omega (arith, one.above, other.above);
+    first1 = λ later wrote above. omega (arith, one.first later wrote above);
+    first2 = λ later wrote above. omega (arith, other.first later wrote above);
+  }
+]
   where
     least_is : number < next → number ≡ min number next
     least_is less = omega arith
+
     least_too : (number < next → ⊥) → next ≡ min number next
     least_too not = omega arith

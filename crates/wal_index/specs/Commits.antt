@@ -1,6 +1,5 @@
 -- The commits of a log, whose frames stand behind one another.
-use Rattle.std.specs.Prelude.{◌≡◌, ℕ, zero, suc, ◌-◌, ◌<◌, ◌≤◌, ◌==◌, ◌&&◌, not, Bool, true, false, if◌then◌else◌, List, length, slice_index, Option, MatchOption, Contains}
-use Rattle.wal_index.specs.Frames.{IsFrameOf}
+use Rattle.std.specs.Prelude.{◌≡◌, ℕ, zero, suc, ◌<◌, ◌≤◌, List, length, slice_index, Option, MatchOption, Contains}
 
 -- The commits of a log as callers see them: their numbers, in order; for each how many frames the log has up to its last one; the numbers of those
 -- that changed page 1 from byte 100 on; and how many commits more it has room for.

@@ -1,5 +1,5 @@
 -- What the frames of a log are of. Frames are numbered from 1.
-use Rattle.std.specs.Prelude.{◌≡◌, ℕ, ◌-◌, ◌<◌, ◌≤◌, List, length, slice_index, Option, None, Some, MatchOption, Contains}
+use Rattle.std.specs.Prelude.{◌≡◌, ℕ, ◌-◌, ◌<◌, ◌≤◌, List, length, slice_index, Option, MatchOption, Contains}
 
 -- the frame with this number is of the page
 pub record IsFrameOf (pages : List ℕ) (page frame : ℕ) : Type 0 where

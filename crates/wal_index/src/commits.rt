@@ -6,6 +6,7 @@ ghost use Rattle.std.specs.Prelude.{◌≡◌, ℕ, ◌+◌, ◌-◌, ◌<◌, �
 ghost use Rattle.wal_index.specs.Commits.{AreCommits, HasFrame, IsCountUpTo, FirstAbove, start_of};
 ghost use Rattle.wal_index.specs.Index.{IsAbove};
 
+use crate::room::make_room;
 use std::alloc::{AllocError, Global};
 use std::marker::Model;
 
@@ -25,11 +26,11 @@ impl Model for LogCommits {
     ghost Value = { CommitList };
 
     ghost view = { λ commits. record {
-        numbers = commits.numbers.items;
-        ends = commits.ends.items;
-        tails = commits.tails.items;
-        room = min (vec_capacity commits.numbers - vec_len commits.numbers)
-            (min (vec_capacity commits.ends - vec_len commits.ends) (vec_capacity commits.tails - vec_len commits.tails));
+      numbers = commits.numbers.items;
+      ends = commits.ends.items;
+      tails = commits.tails.items;
+      room = min (vec_capacity commits.numbers - vec_len commits.numbers)
+          (min (vec_capacity commits.ends - vec_len commits.ends) (vec_capacity commits.tails - vec_len commits.tails));
     } };
 
     ghost invariant = { λ commits. AreCommits commits.numbers.items commits.ends.items commits.tails.items };
@@ -57,9 +58,9 @@ impl LogCommits {
         ensures ends { self.new.ends ≡ self.old.ends }
         ensures tails { self.new.tails ≡ self.old.tails }
     {
-        self.numbers.reserve(1)?;
-        self.ends.reserve(1)?;
-        self.tails.reserve(1)
+        make_room(&mut self.numbers, 1)?;
+        make_room(&mut self.ends, 1)?;
+        make_room(&mut self.tails, 1)
     }
 
     /// Takes all commits out. It takes no memory and keeps the room.

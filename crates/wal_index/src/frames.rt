@@ -9,6 +9,7 @@ ghost use Rattle.wal_index.specs.Frames.{FindsLast, FindsFirst, FindsNext};
 ghost use Rattle.wal_index.specs.Parts.{LastIn, FirstIn, NextIn, lesser_of};
 ghost use Rattle.wal_index.specs.Order.{AreOrdered, IsBefore, IsRank, part_start, named};
 
+use crate::room::make_room;
 use std::alloc::{AllocError, Global};
 use std::marker::Model;
 
@@ -31,8 +32,8 @@ impl Model for LogFrames {
     ghost Value = { FrameList };
 
     ghost view = { λ frames. record {
-        pages = frames.pages.items;
-        room = min (vec_capacity frames.pages) (vec_capacity frames.order) - vec_len frames.pages;
+      pages = frames.pages.items;
+      room = min (vec_capacity frames.pages) (vec_capacity frames.order) - vec_len frames.pages;
     } };
 
     ghost invariant = { λ frames. AreOrdered frames.pages.items frames.order.items × (length frames.pages.items < 2 ^ 32) };
@@ -55,8 +56,8 @@ impl LogFrames {
         ensures more { self.old.room ≤ self.new.room }
         ensures pages { self.new.pages ≡ self.old.pages }
     {
-        self.pages.reserve(frames)?;
-        self.order.reserve(frames)
+        make_room(&mut self.pages, frames)?;
+        make_room(&mut self.order, frames)
     }
 
     /// Takes all frames out. It takes no memory and keeps the room.
@@ -86,7 +87,12 @@ impl LogFrames {
     pub fn find_last(&self, page: u32, mark: u32) -> Option<u32>
         ensures { FindsLast self.now.pages page mark result }
     {
-        last_of(&self.pages, &self.order, page, self.pages.len().min(mark as usize))
+        last_of(
+            &self.pages,
+            &self.order,
+            page,
+            self.pages.len().min(mark as usize),
+        )
     }
 
     /// The number of the first frame of the page above this one.
@@ -167,7 +173,13 @@ fn rank(pages: &[u32], order: &[u16], start: usize, end: usize, page: u32, place
 }
 
 // The last place of the page in the part that starts here, below a limit.
-fn last_in_part(pages: &[u32], order: &[u16], start: usize, page: u32, limit: usize) -> Option<usize>
+fn last_in_part(
+    pages: &[u32],
+    order: &[u16],
+    start: usize,
+    page: u32,
+    limit: usize,
+) -> Option<usize>
     requires ordered { AreOrdered pages.now order.now }
     requires part { (part_start start ≡ start) × (start < length pages.now) }
     requires fits { length pages.now < 2 ^ 32 }
@@ -179,11 +191,21 @@ fn last_in_part(pages: &[u32], order: &[u16], start: usize, page: u32, limit: us
         return None;
     }
     let place = place_at(order, entry - 1);
-    if pages[place] == page { Some(place) } else { None }
+    if pages[place] == page {
+        Some(place)
+    } else {
+        None
+    }
 }
 
 // The first place of the page in the part that starts here, from a place on.
-fn first_in_part(pages: &[u32], order: &[u16], start: usize, page: u32, from: usize) -> Option<usize>
+fn first_in_part(
+    pages: &[u32],
+    order: &[u16],
+    start: usize,
+    page: u32,
+    from: usize,
+) -> Option<usize>
     requires ordered { AreOrdered pages.now order.now }
     requires part { (part_start start ≡ start) × (start < length pages.now) }
     requires fits { length pages.now < 2 ^ 32 }
@@ -195,7 +217,11 @@ fn first_in_part(pages: &[u32], order: &[u16], start: usize, page: u32, from: us
         return None;
     }
     let place = place_at(order, entry);
-    if pages[place] == page { Some(place) } else { None }
+    if pages[place] == page {
+        Some(place)
+    } else {
+        None
+    }
 }
 
 // The least page in the part that starts here above the given one.

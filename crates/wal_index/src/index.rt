@@ -4,10 +4,9 @@ ghost use Rattle.wal_index.specs.Frames.{FindsLast, FindsNext};
 ghost use Rattle.wal_index.specs.Index.{Indexed, IndexedLog, SameLog, HasRoom, IsCleared, AddsFrame, Seals, IsAbove, HasOpenFrames, FirstWriterOfBoth, SameOther, by_tail, log_in};
 ghost use Rattle.wal_index.specs.Parts.{lesser_of};
 
+use crate::log::LogIndex;
 use std::alloc::{AllocError, Global};
 use std::marker::Model;
-
-use crate::log::LogIndex;
 
 /// The index of both logs of a store. A contract sees, for each log, the page of each frame, from frame 1 on, and its commits; the frames behind the
 /// last commit are those of a commit that is under way. A log takes at most 16 bytes a frame.
@@ -23,7 +22,7 @@ impl Model for WalIndex {
 
     ghost Value = { Indexed };
 
-    ghost view = { λ index. record { log1 = index.one; log2 = index.two; last = index.last; } };
+    ghost view = { λ index. record { log1 = index.one; log2 = index.two; last = index.last } };
 }
 
 impl WalIndex {
@@ -109,7 +108,10 @@ impl WalIndex {
     pub fn written_since(&self, n: u64, page: u32, whole: bool) -> Option<u64>
         ensures { FirstWriterOfBoth (by_tail page whole) self.now n page result }
     {
-        earlier(self.one.written_since(n, page, whole), self.two.written_since(n, page, whole))
+        earlier(
+            self.one.written_since(n, page, whole),
+            self.two.written_since(n, page, whole),
+        )
     }
 
     /// The least page above this one of which a log has a frame.

@@ -7,5 +7,6 @@ mod commits;
 mod frames;
 mod index;
 mod log;
+mod room;
 
 pub use index::WalIndex;

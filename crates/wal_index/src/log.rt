@@ -4,11 +4,10 @@ ghost use Rattle.wal_index.specs.Frames.{FindsLast, FindsNext};
 ghost use Rattle.wal_index.specs.Commits.{CommitList};
 ghost use Rattle.wal_index.specs.Index.{IndexedLog, SameLog, HasRoom, IsCleared, AddsFrame, Seals, IsAbove, HasOpenFrames, FirstWriter, by_tail};
 
-use std::alloc::{AllocError, Global};
-use std::marker::Model;
-
 use crate::commits::LogCommits;
 use crate::frames::LogFrames;
+use std::alloc::{AllocError, Global};
+use std::marker::Model;
 
 /// The index of one log.
 #[derive(Debug, Drop)]
@@ -24,12 +23,12 @@ impl Model for LogIndex {
     ghost Value = { IndexedLog };
 
     ghost view = { λ log. record {
-        pages = log.frames.pages;
-        numbers = log.commits.numbers;
-        ends = log.commits.ends;
-        tails = log.commits.tails;
-        room = log.frames.room;
-        seals = log.commits.room;
+      pages = log.frames.pages;
+      numbers = log.commits.numbers;
+      ends = log.commits.ends;
+      tails = log.commits.tails;
+      room = log.frames.room;
+      seals = log.commits.room;
     } };
 
     ghost invariant = { λ log. (place : ℕ) → place < length log.commits.ends → slice_index log.commits.ends place ≤ length log.frames.pages };

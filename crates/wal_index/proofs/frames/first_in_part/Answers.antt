@@ -1,5 +1,5 @@
 use Rattle.std.proofs.Common.{arith}
-use Rattle.wal_index.proofs.Found.{IsRanked, part_end, none_above, found_first, none_first}
+use Rattle.wal_index.proofs.Found.{part_end, none_above, found_first, none_first}
 use Rattle.wal_index.proofs.frames.first_in_part.Goals as goal
 
 pub returns-then-entry-end : goal.returns-then-entry-end

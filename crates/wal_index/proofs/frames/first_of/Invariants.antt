@@ -1,5 +1,5 @@
 -- `start` begins a part, and none of the places before it, behind the first ones, is of the page.
-use Rattle.std.proofs.Common.{◌≡◌, ◌-◌, ◌+◌, ◌⊎◌, ℕ, ◌<◌, ◌≤◌, length, slice_index}
+use Rattle.std.proofs.Common.{◌≡◌, ◌-◌, ℕ, ◌<◌, ◌≤◌, length, slice_index}
 use Rattle.wal_index.specs.Order.{part_start}
 use Rattle.wal_index.proofs.frames.first_of.Given as goal
 

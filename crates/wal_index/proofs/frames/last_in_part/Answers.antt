@@ -1,5 +1,5 @@
 use Rattle.std.proofs.Common.{arith}
-use Rattle.wal_index.proofs.Found.{IsRanked, part_end, none_below, found_last, none_last}
+use Rattle.wal_index.proofs.Found.{part_end, none_below, found_last, none_last}
 use Rattle.wal_index.proofs.frames.last_in_part.Goals as goal
 
 pub returns-then-entry-start : goal.returns-then-entry-start

@@ -1,6 +1,5 @@
 -- None of the places from `end` on, below the limit, is of the page, and a part ends at `end`, or it is the limit.
-use Rattle.std.proofs.Common.{◌≡◌, ◌⊎◌, ℕ, ◌<◌, ◌≤◌, slice_index}
-use Rattle.wal_index.specs.Order.{part_start}
+use Rattle.std.proofs.Common.{◌≡◌, ℕ, ◌<◌, ◌≤◌, slice_index}
 use Rattle.wal_index.proofs.frames.last_of.Given as goal
 
 abbrev pub invariant-loop-end : goal.invariant-loop-end

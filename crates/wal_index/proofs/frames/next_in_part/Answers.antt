@@ -1,5 +1,5 @@
 use Rattle.std.proofs.Common.{arith}
-use Rattle.wal_index.proofs.Found.{IsRanked, part_end, none_next, found_next}
+use Rattle.wal_index.proofs.Found.{part_end, none_next, found_next}
 use Rattle.wal_index.proofs.frames.next_in_part.Goals as goal
 
 pub returns-then-entry-end : goal.returns-then-entry-end

@@ -1,5 +1,5 @@
 -- `start` begins a part, and `least` is the least page above the given one before it.
-use Rattle.std.proofs.Common.{◌≡◌, ◌-◌, ℕ, ◌<◌, length}
+use Rattle.std.proofs.Common.{◌≡◌, ◌-◌, ◌<◌, length}
 use Rattle.wal_index.specs.Order.{part_start}
 use Rattle.wal_index.specs.Parts.{LeastBelow}
 use Rattle.wal_index.proofs.frames.next_of.Given as goal

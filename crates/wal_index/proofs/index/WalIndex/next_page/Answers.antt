@@ -9,7 +9,7 @@ returns-then-log-eq1 c = subst (λ log. FindsNext (log_in c.args.self.now log).p
 
 pub returns-else-log-eq1 : goal.returns-else-log-eq1
 returns-else-log-eq1 c = elim c.requires.log [
-    inl is ↦ absurd (c.if-log-eq1.false is)
+  | inl is ↦ absurd (c.if-log-eq1.false is)
   | inr is ↦ subst (λ log. FindsNext (log_in c.args.self.now log).pages c.args.after c.next_page-else-log-eq1.result) (sym is)
       (subst (λ index. FindsNext index.log2.pages c.args.after c.next_page-else-log-eq1.result) c.self.view_is c.next_page-else-log-eq1.ensures)
-  ]
+]
