@@ -1,0 +1,4 @@
+pub mod CellLaws
+pub mod FaultLaws
+pub mod PieceLaws
+pub mod Decode
