@@ -1,7 +1,7 @@
 -- A cell that stands at a place of a page reads there as it does alone.
-use Rattle.std.proofs.Common.{◌≡◌, ℕ, ◌+◌, ◌-◌, ◌<◌, ◌≤◌, max, nat_le, take-append-drop, true, false, List, ◌++◌, length, drop, take, take_at, get_or, refl, sym, ap, ◌∙◌, arith, length-drop, length-append}
+use Rattle.std.proofs.Common.{◌≡◌, ℕ, ◌+◌, ◌-◌, ◌<◌, ◌≤◌, max, nat_le, take-append-drop, List, ◌++◌, length, drop, take, take_at, get_or, refl, sym, ap, ◌∙◌, arith, length-drop}
 use Rattle.std.specs.List.{prefix_len}
-use Rattle.std.proofs.lemmas.List.{take_all, drop-append-le, take-append-le, get_or-drop, get_or-take, length-take, length-take-le, get_or_append_left}
+use Rattle.std.proofs.lemmas.List.{drop-append-le, take-append-le, get_or-drop, get_or-take, length-take, length-take-le}
 use Rattle.std.proofs.lemmas.List.Folds.{length-prefix_len}
 use Rattle.std.proofs.lemmas.List.Sums.{prefix_len_stops, prefix_len_passes, prefix_len-le-length}
 use Rattle.std.proofs.lemmas.Bool.Decides.{nat_tests}
@@ -10,9 +10,7 @@ use Rattle.page_spec.specs.Varint.{carrying, varint_size, varint_number, BeginsW
 use Rattle.page_spec.proofs.VarintLaws.{begins_append, varint_is, varint_size_bounds}
 use Rattle.node_spec.specs.declared.kinds.Kind.{Kind}
 use Rattle.node_spec.specs.declared.kinds.Kind.TheVariants.{IndexInner, TableInner, IndexLeaf, TableLeaf}
-use Rattle.node_spec.specs.Kinds.{is_table}
-use Rattle.node_spec.specs.Cells.{keys_size, payload_in, body_size, left_size, cell_size, stored_size, IsCell}
-use Rattle.node_spec.specs.Layout.{Piece}
+use Rattle.node_spec.specs.Cells.{keys_size, payload_in, body_size, left_size, cell_size, IsCell}
 use Rattle.node_spec.specs.Faults.{rest_at, cell_piece}
 
 -- the bytes of a whole varint: all before its last say that another follows

@@ -2,3 +2,4 @@ pub mod CellLaws
 pub mod FaultLaws
 pub mod PieceLaws
 pub mod Decode
+pub mod NodeLaws

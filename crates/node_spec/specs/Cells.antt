@@ -8,7 +8,7 @@
 --
 -- Of a payload that is too large a part is stored in the cell, and the number of the first overflow page follows in 4 bytes.
 -- A cell takes at least 4 bytes of its page.
-use Rattle.std.specs.Prelude.{◌≡◌, ℕ, ℤ, ◌+◌, ◌-◌, ◌*◌, ◌/◌, ◌%◌, max, Bool, true, false, nat_le, nat_lt, if◌then◌else◌, List, length, drop, slice_range}
+use Rattle.std.specs.Prelude.{◌≡◌, ℕ, ℤ, ◌+◌, ◌-◌, ◌*◌, ◌/◌, ◌%◌, max, Bool, nat_le, nat_lt, if◌then◌else◌, List, length, drop, slice_range}
 use Rattle.std.specs.Int.{cast_signed, w64}
 use Rattle.page_spec.specs.Bytes.{u32_at}
 use Rattle.page_spec.specs.Varint.{varint_size, varint_number}

@@ -1,5 +1,5 @@
 -- The node that a page shows: what a b-tree knows of a page.
-use Rattle.std.specs.Prelude.{◌≡◌, ℕ, ◌+◌, ◌-◌, ◌*◌, ◌==◌, ◌&&◌, nat_le, if◌then◌else◌, Bool, true, false, List, [], ◌∷◌, length, map, sum_by, slice_index, insert, remove, Option, None, Some, is_none}
+use Rattle.std.specs.Prelude.{◌≡◌, ℕ, ◌+◌, ◌-◌, ◌*◌, ◌&&◌, nat_le, if◌then◌else◌, Bool, List, length, map, sum_by, slice_index, insert, remove, Option, None, Some, is_none}
 use Rattle.page_spec.specs.Bytes.{u16_at, u32_at}
 use Rattle.node_spec.specs.declared.kinds.Kind.{Kind}
 use Rattle.node_spec.specs.Kinds.{is_leaf, kind_of, header_at, pointers_at}
