@@ -1,5 +1,5 @@
 -- A cell that stands at a place of a page reads there as it does alone.
-use Rattle.std.proofs.Common.{◌≡◌, ℕ, ◌+◌, ◌-◌, ◌<◌, ◌≤◌, max, nat_le, take-append-drop, List, ◌++◌, length, drop, take, take_at, get_or, refl, sym, ap, ◌∙◌, arith, length-drop}
+use Rattle.std.proofs.Common.{◌≡◌, ℕ, ◌+◌, ◌-◌, ◌<◌, ◌≤◌, max, nat_le, take-append-drop, List, ◌++◌, length, drop, take, take_at, get_or, slice_range, zero-add, length-append, refl, sym, ap, ◌∙◌, arith, length-drop}
 use Rattle.std.specs.List.{prefix_len}
 use Rattle.std.proofs.lemmas.List.{drop-append-le, take-append-le, get_or-drop, get_or-take, length-take, length-take-le}
 use Rattle.std.proofs.lemmas.List.Folds.{length-prefix_len}
@@ -10,7 +10,7 @@ use Rattle.page_spec.specs.Varint.{carrying, varint_size, varint_number, BeginsW
 use Rattle.page_spec.proofs.VarintLaws.{begins_append, varint_is, varint_size_bounds}
 use Rattle.node_spec.specs.declared.kinds.Kind.{Kind}
 use Rattle.node_spec.specs.declared.kinds.Kind.TheVariants.{IndexInner, TableInner, IndexLeaf, TableLeaf}
-use Rattle.node_spec.specs.Cells.{keys_size, payload_in, body_size, left_size, cell_size, IsCell}
+use Rattle.node_spec.specs.Cells.{keys_size, payload_in, rowid_in, body_size, left_size, cell_size, IsCell}
 use Rattle.node_spec.specs.Faults.{rest_at, cell_piece}
 
 -- the bytes of a whole varint: all before its last say that another follows
@@ -66,15 +66,16 @@ varint_front bytes more h = begins_append bytes more _ _ (record { spelled = ref
 -- what stands behind the left child, with more bytes behind it
 pub keys_front : (kind : Kind) (body more : List ℕ) → keys_size kind body ≤ length body
     → (keys_size kind (body ++ more) ≡ keys_size kind body) × (payload_in kind (body ++ more) ≡ payload_in kind body)
-unfolding keys_size payload_in
-keys_front IndexInner body more h = let v = varint_front body more h in (v.used, v.spelled)
-keys_front TableInner body more h = let v = varint_front body more h in (v.used, refl)
-keys_front IndexLeaf body more h = let v = varint_front body more h in (v.used, v.spelled)
+    × (rowid_in kind (body ++ more) ≡ rowid_in kind body)
+unfolding keys_size payload_in rowid_in
+keys_front IndexInner body more h = let v = varint_front body more h in (v.used, v.spelled, refl)
+keys_front TableInner body more h = let v = varint_front body more h in (v.used, refl, v.spelled)
+keys_front IndexLeaf body more h = let v = varint_front body more h in (v.used, v.spelled, refl)
 keys_front TableLeaf body more h =
     let v = varint_front body more (omega arith) in
     let rest : drop (varint_size body) (body ++ more) ≡ drop (varint_size body) body ++ more = drop-append-le (varint_size body) body more (omega arith) in
     let w = varint_front (drop (varint_size body) body) more (omega (arith, length-drop (varint_size body) body)) in
-    (rw (v.used, rest, w.used) refl, v.spelled)
+    (rw (v.used, rest, w.used) refl, v.spelled, rw (v.used, rest) w.spelled)
 
 -- and cut behind it
 pub keys_cut : (kind : Kind) (body : List ℕ) (n : ℕ) → keys_size kind body ≤ n → n ≤ length body
@@ -145,14 +146,57 @@ split_at page text start same room =
     (λ k l. get_or-take (length text) (drop start page) k 0 (omega (arith, length-take (length text) (drop start page))) ∙ get_or-drop start page k 0 ∙ same k (omega (arith, length-take (length text) (drop start page)))) in
     sym (take-append-drop (length text) (drop start page)) ∙ ap (λ xs. xs ++ drop (length text) (drop start page)) front
 
+-- and so are they up to a later place
+pub split_in : (page text : List ℕ) (start end : ℕ) → ((k : ℕ) → k < length text → get_or page (start + k) 0 ≡ get_or text k 0)
+    → start + length text ≤ end → end ≤ length page → slice_range page start end ≡ text ++ drop (length text) (slice_range page start end)
+split_in page text start end same room long =
+    let rest = slice_range page start end in
+    let len : length rest ≡ end - start = length-take-le (end - start) (drop start page) (omega (arith, length-drop start page)) in
+    split_at rest text 0 (λ k l.
+    ap (λ n. get_or rest n 0) (zero-add k) ∙ get_or-take (end - start) (drop start page) k 0 (omega arith) ∙ get_or-drop start page k 0 ∙ same k l) (omega arith)
+
 -- A cell that stands in the usable bytes of a page: from its start on the page has its size and its text.
 pub cell_stands : (kind : Kind) (usable : ℕ) (page text : List ℕ) (start : ℕ) → IsCell kind usable text
     → ((k : ℕ) → k < length text → get_or page (start + k) 0 ≡ get_or text k 0) → start + length text ≤ usable → usable ≤ length page
     → (cell_size kind usable (rest_at usable page start) ≡ length text) × ((cell_piece usable kind page start).bytes ≡ text)
 unfolding cell_piece
 cell_stands kind usable page text start whole same room long =
-    let len : length (take usable page) ≡ usable = length-take-le usable page long in
-    let split = split_at (take usable page) text start (λ k l. get_or-take usable page (start + k) 0 (omega arith) ∙ same k l) (omega arith) in
+    let split = split_in page text start usable same room long in
     let more = drop (length text) (rest_at usable page start) in
     let size : cell_size kind usable (rest_at usable page start) ≡ length text = ap (cell_size kind usable) split ∙ cell_front kind usable text more whole in
     (size, rw size (ap (take (length text)) split ∙ take_at text more (length text) refl))
+
+-- The parts of such a cell, read from the page.
+pub record ReadsCell (kind : Kind) (usable : ℕ) (page text : List ℕ) (start : ℕ) : Type 0 where
+  pub left : left_size kind ≤ length text
+  pub keys : keys_size kind (rest_at usable page (start + left_size kind)) ≡ keys_size kind (drop (left_size kind) text)
+  pub payload : payload_in kind (rest_at usable page (start + left_size kind)) ≡ payload_in kind (drop (left_size kind) text)
+  pub rowid : rowid_in kind (rest_at usable page (start + left_size kind)) ≡ rowid_in kind (drop (left_size kind) text)
+  pub whole : keys_size kind (rest_at usable page (start + left_size kind)) ≤ length (rest_at usable page (start + left_size kind))
+  pub size : length text ≡ max 4 (left_size kind + body_size kind usable (rest_at usable page (start + left_size kind)))
+
+pub reads_cell : (kind : Kind) (usable : ℕ) (page text : List ℕ) (start : ℕ) → IsCell kind usable text
+    → ((k : ℕ) → k < length text → get_or page (start + k) 0 ≡ get_or text k 0) → start + length text ≤ usable → usable ≤ length page
+    → ReadsCell kind usable page text start
+unfolding cell_size body_size
+reads_cell kind usable page text start whole same room long =
+    let left = left_size kind in
+    let body = drop left text in
+    let fits : left ≤ length text = omega arith in
+    let len : length body ≡ length text - left = length-drop left text in
+    let keys : keys_size kind body ≤ length body = omega arith in
+    let rest = rest_at usable page (start + left) in
+    let more = drop (length body) rest in
+    let split : rest ≡ body ++ more = split_in page body (start + left) usable (λ k l.
+    ap (λ n. get_or page n 0) (omega arith) ∙ same (left + k) (omega arith) ∙ sym (get_or-drop left text k 0)) (omega arith) long in
+    let front = keys_front kind body more keys in
+    let same_keys : keys_size kind rest ≡ keys_size kind body = ap (keys_size kind) split ∙ front.0 in
+    let same_payload : payload_in kind rest ≡ payload_in kind body = ap (payload_in kind) split ∙ front.1 in
+    record {
+      left = fits;
+      keys = same_keys;
+      payload = same_payload;
+      rowid = ap (rowid_in kind) split ∙ front.2;
+      whole = omega (arith, ap (λ (xs : List ℕ). length xs) split, length-append body more);
+      size = rw (same_keys, same_payload) (sym whole);
+    }

@@ -11,7 +11,7 @@ use Rattle.node_spec.specs.declared.kinds.Kind.TheVariants.{IndexInner, TableInn
 use Rattle.node_spec.specs.Kinds.{flag_of, kind_of}
 use Rattle.node_spec.specs.Cells.{cell_size, IsCell}
 use Rattle.node_spec.specs.Layout.{Piece, nowhere, cover, taken, Stands, IsChain, HasCells, IsPage, content_start}
-use Rattle.node_spec.specs.Faults.{first_fault, rest_at, cell_piece, cells_in, block_piece, blocks_in, is_block, chain_fault, pointer_fault, cell_fault, byte_fault, has_fragments, content_fault, parts_fault}
+use Rattle.node_spec.specs.Faults.{first_fault, rest_at, cell_piece, cells_in, block_piece, blocks_in, is_block, chain_fault, pointer_fault, cell_fault, byte_fault, has_fragments, front_fault, content_fault, parts_fault}
 use Rattle.node_spec.proofs.CellLaws.{cell_cut, cell_stands, split_at}
 use Rattle.node_spec.proofs.FaultLaws.{unless_none, or_none, none_first, first_none}
 use Rattle.node_spec.proofs.PieceLaws.{same_piece, cover_none}
@@ -65,7 +65,7 @@ cells_are {usable} {pointers = pointers} {kind = kind} {page = page} {cells = ce
     at-cells_in usable kind page pointers (length cells) i less ∙ ap (cell_piece usable kind page) (h.points i less) ∙ is)
 
 pub cells_whole : {usable at pointers content : ℕ} {kind : Kind} {page : List ℕ} {cells : List Piece} → HasCells usable at pointers content kind page cells
-    → (i : ℕ) → i < length cells → cell_fault usable kind page (u16_at page (pointers + 2 * i)) ≡ None
+    → (i : ℕ) → i < length cells → cell_fault usable kind page pointers i ≡ None
 unfolding cell_fault
 cells_whole {usable} {pointers = pointers} {kind = kind} {page = page} {cells = cells} h i less =
     let piece = get_or cells i nowhere in
@@ -189,10 +189,11 @@ pointer_passed content page pointers i none =
     let holds = unless_none (nat_le content (u16_at page (pointers + 2 * i))) (pointers + 2 * i) none in
     grind (arith, nat_tests)
 
-cell_passed : (usable : ℕ) (kind : Kind) (page : List ℕ) (start : ℕ) → cell_fault usable kind page start ≡ None
-    → start + cell_size kind usable (rest_at usable page start) ≤ usable
+cell_passed : (usable : ℕ) (kind : Kind) (page : List ℕ) (pointers i : ℕ) → cell_fault usable kind page pointers i ≡ None
+    → u16_at page (pointers + 2 * i) + cell_size kind usable (rest_at usable page (u16_at page (pointers + 2 * i))) ≤ usable
 unfolding cell_fault
-cell_passed usable kind page start none =
+cell_passed usable kind page pointers i none =
+    let start = u16_at page (pointers + 2 * i) in
     let holds = unless_none (nat_le (start + cell_size kind usable (rest_at usable page start)) usable) start none in
     grind (arith, nat_tests)
 
@@ -221,7 +222,7 @@ fragments_passed usable content cells blocks fragments is = (grind (arith, commo
 -- The text of a page passes all checks,
 pub no_parts_fault : {usable at pointers : ℕ} {kind : Kind} {page : List ℕ} {cells blocks : List Piece} → IsPage usable at pointers kind page cells blocks
     → parts_fault usable at pointers kind page ≡ None
-unfolding parts_fault content_fault
+unfolding parts_fault front_fault content_fault
 no_parts_fault {usable} {at} {pointers} {kind} {page} {cells} {blocks} p =
     let h = p.holds in
     let content = content_start page at in
@@ -235,8 +236,8 @@ no_parts_fault {usable} {at} {pointers} {kind} {page} {cells} {blocks} p =
     let third : nat_le content usable ≡ true = grind (arith, nat_tests) in
     let points : first_fault (length cells) (pointer_fault content page pointers) ≡ None =
     none_first (length cells) (pointer_fault content page pointers) (λ i l. pointer_passes content page pointers i (omega (arith, h.points i l, (h.stand i nowhere l).low))) in
-    let whole : first_fault (length cells) (λ i. cell_fault usable kind page (u16_at page (pointers + 2 * i))) ≡ None =
-    none_first (length cells) (λ i. cell_fault usable kind page (u16_at page (pointers + 2 * i))) (cells_whole h) in
+    let whole : first_fault (length cells) (cell_fault usable kind page pointers) ≡ None =
+    none_first (length cells) (cell_fault usable kind page pointers) (cells_whole h) in
     let bytes : first_fault usable (byte_fault cells blocks) ≡ None = none_first usable (byte_fault cells blocks) (λ k l. byte_passes cells blocks k (p.apart k)) in
     let fragments = fragments_pass usable content cells blocks (get_or page (at + 7) 0) p.few p.all in
     rw (count, first, second, third, points, whole, chain.1, read, chain.0, bytes, fragments) refl
@@ -254,14 +255,13 @@ piece_stands usable content kind page start long low whole =
     let rest = rest_at usable page start in
     let size = cell_size kind usable rest in
     let some = cell_size_least kind usable rest in
-    let used : length (take usable page) ≡ usable = length-take-le usable page long in
-    let room : length rest ≡ usable - start = omega (arith, length-drop start (take usable page)) in
+    let room : length rest ≡ usable - start = length-take-le (usable - start) (drop start page) (omega (arith, length-drop start page)) in
     let len : length (take size rest) ≡ size = length-take-le size rest (omega arith) in (
       record {
         low = low;
         high = omega arith;
         some = omega arith;
-        same = λ k l. sym (get_or-take size rest k 0 (omega arith) ∙ get_or-drop start (take usable page) k 0 ∙ get_or-take usable page (start + k) 0 (omega arith));
+        same = λ k l. sym (get_or-take size rest k 0 (omega arith) ∙ get_or-take (usable - start) (drop start page) k 0 (omega arith) ∙ get_or-drop start page k 0);
       },
       cell_cut kind usable rest (omega arith),
     )
@@ -274,24 +274,24 @@ both false b e = cc
 pub no_fault_page : (usable at pointers : ℕ) (kind : Kind) (page : List ℕ) → usable ≤ length page → 480 ≤ usable → usable ≤ 65536 → at + 8 ≤ pointers
     → get_or page at 0 ≡ flag_of kind → parts_fault usable at pointers kind page ≡ None
     → IsPage usable at pointers kind page (cells_in usable kind page pointers (u16_at page (at + 3))) (blocks_in (suc usable) page (u16_at page (at + 1)))
-unfolding parts_fault content_fault cell_piece
+unfolding parts_fault front_fault content_fault cell_piece
 no_fault_page usable at pointers kind page long least most head flag none =
     let count = u16_at page (at + 3) in
     let content = content_start page at in
     let cells = cells_in usable kind page pointers count in
     let blocks = blocks_in (suc usable) page (u16_at page (at + 1)) in
-    let one = or_none _ _ none in
+    let parts = or_none _ _ none in
+    let one = or_none _ _ parts.0 in
     let two = or_none _ _ one.1 in
-    let three = or_none _ _ two.1 in
-    let four = or_none _ _ three.1 in
+    let four = or_none _ _ parts.1 in
     let five = or_none _ _ four.1 in
     let six = or_none _ _ five.1 in
     let bounds = both (nat_le (pointers + 2 * count) content) (nat_le content usable) (unless_none _ (at + 5) two.0) in
     let room : pointers + 2 * count ≤ content = let t = bounds.0 in grind (arith, nat_tests) in
     let low : (i : ℕ) → i < count → content ≤ u16_at page (pointers + 2 * i) = λ i l.
-    pointer_passed content page pointers i (first_none count (pointer_fault content page pointers) three.0 i l) in
+    pointer_passed content page pointers i (first_none count (pointer_fault content page pointers) two.1 i l) in
     let whole : (i : ℕ) → i < count → u16_at page (pointers + 2 * i) + cell_size kind usable (rest_at usable page (u16_at page (pointers + 2 * i))) ≤ usable = λ i l.
-    cell_passed usable kind page (u16_at page (pointers + 2 * i)) (first_none count (λ j. cell_fault usable kind page (u16_at page (pointers + 2 * j))) four.0 i l) in
+    cell_passed usable kind page pointers i (first_none count (cell_fault usable kind page pointers) four.0 i l) in
     let len = length-cells_in usable kind page pointers count in
     let chain = chain_is usable content page (suc usable) 0 (u16_at page (at + 1)) long five.0 (omega arith) (omega arith) in
     let piece : (i : ℕ) → i < count → Stands page content usable (get_or cells i nowhere) × IsCell kind usable (get_or cells i nowhere).bytes = λ i l.

@@ -2,7 +2,7 @@
 -- the start of the content, behind the pointers and at most at the end; each pointer, at or behind the start of the content; each cell,
 -- whole before the end; each freeblock, behind the one before it, of at least 4 bytes, in the content; that no byte is in two cells or
 -- freeblocks; the count of fragment bytes. A field is told by its offset, a cell and a freeblock by its start.
-use Rattle.std.specs.Prelude.{ℕ, zero, suc, ◌+◌, ◌*◌, ◌==◌, ◌&&◌, nat_le, nat_lt, if◌then◌else◌, Bool, true, false, List, [], ◌∷◌, ◌++◌, take, drop, slice_index, Option, None, Some}
+use Rattle.std.specs.Prelude.{ℕ, zero, suc, ◌+◌, ◌*◌, ◌==◌, ◌&&◌, nat_le, nat_lt, if◌then◌else◌, Bool, true, false, List, [], ◌∷◌, ◌++◌, take, drop, slice_index, slice_range, Option, None, Some}
 use Rattle.page_spec.specs.Bytes.{u16_at}
 use Rattle.node_spec.specs.declared.kinds.Kind.{Kind}
 use Rattle.node_spec.specs.Kinds.{kind_of, header_at, pointers_at}
@@ -26,7 +26,7 @@ first_fault (suc n) fault_at = or_else (first_fault n fault_at) (fault_at n)
 
 -- the bytes in use from a place on
 abbrev pub rest_at : (usable : ℕ) → List ℕ → ℕ → List ℕ
-rest_at usable page start = drop start (take usable page)
+rest_at usable page start = slice_range page start usable
 
 -- the cell that a pointer leads to, as far as the page goes
 unfoldable pub cell_piece : (usable : ℕ) → Kind → List ℕ → ℕ → Piece
@@ -67,8 +67,10 @@ chain_fault (suc more) usable content page before at =
 unfoldable pub pointer_fault : (content : ℕ) → List ℕ → (pointers : ℕ) → ℕ → Option ℕ
 pointer_fault content page pointers i = unless (nat_le content (u16_at page (pointers + 2 * i))) (pointers + 2 * i)
 
-unfoldable pub cell_fault : (usable : ℕ) → Kind → List ℕ → ℕ → Option ℕ
-cell_fault usable kind page start = unless (nat_le (start + cell_size kind usable (rest_at usable page start)) usable) start
+unfoldable pub cell_fault : (usable : ℕ) → Kind → List ℕ → (pointers : ℕ) → ℕ → Option ℕ
+cell_fault usable kind page pointers i =
+    let start = u16_at page (pointers + 2 * i) in
+    unless (nat_le (start + cell_size kind usable (rest_at usable page start)) usable) start
 
 unfoldable pub byte_fault : (cells blocks : List Piece) → ℕ → Option ℕ
 byte_fault cells blocks k = unless (nat_le (cover cells k + cover blocks k) 1) k
@@ -84,20 +86,23 @@ content_fault usable at pointers kind page =
     let content = content_start page at in
     let cells = cells_in usable kind page pointers count in
     let blocks = blocks_in (suc usable) page (u16_at page (at + 1)) in
-    or_else (first_fault count (λ i. cell_fault usable kind page (u16_at page (pointers + 2 * i))))
+    or_else (first_fault count (cell_fault usable kind page pointers))
     (or_else (chain_fault (suc usable) usable content page 0 (u16_at page (at + 1)))
     (or_else (first_fault usable (byte_fault cells blocks))
     (unless (has_fragments usable content cells blocks (slice_index page (at + 7))) (at + 7))))
 
--- The checks of a page of a kind.
-unfoldable pub parts_fault : (usable at pointers : ℕ) → Kind → List ℕ → Option ℕ
-parts_fault usable at pointers kind page =
+-- The checks of what stands before the content: the count, the start of the content, the pointers.
+unfoldable pub front_fault : (usable at pointers : ℕ) → List ℕ → Option ℕ
+front_fault usable at pointers page =
     let count = u16_at page (at + 3) in
     let content = content_start page at in
     or_else (unless (nat_le (pointers + 2 * count) usable) (at + 3))
     (or_else (unless (nat_le (pointers + 2 * count) content && nat_le content usable) (at + 5))
-    (or_else (first_fault count (pointer_fault content page pointers))
-    (content_fault usable at pointers kind page)))
+    (first_fault count (pointer_fault content page pointers)))
+
+-- all checks of a page of a kind
+unfoldable pub parts_fault : (usable at pointers : ℕ) → Kind → List ℕ → Option ℕ
+parts_fault usable at pointers kind page = or_else (front_fault usable at pointers page) (content_fault usable at pointers kind page)
 
 abbrev pub fault_by_kind : (usable : ℕ) (first : Bool) → Option Kind → List ℕ → Option ℕ
 fault_by_kind usable first None page = Some (header_at first)
