@@ -1,5 +1,5 @@
 -- The node that a page shows: what a b-tree knows of a page.
-use Rattle.std.specs.Prelude.{◌≡◌, ℕ, ◌+◌, ◌-◌, ◌*◌, ◌&&◌, nat_le, if◌then◌else◌, Bool, List, length, map, sum_by, slice_index, insert, remove, Option, None, Some, is_none}
+use Rattle.std.specs.Prelude.{◌≡◌, ℕ, ◌+◌, ◌-◌, ◌*◌, ◌&&◌, nat_le, if◌then◌else◌, Bool, List, [], length, map, sum_by, slice_index, slice_index_or, pos, insert, remove, Option, None, Some, is_none}
 use Rattle.page_spec.specs.Bytes.{u16_at, u32_at}
 use Rattle.node_spec.specs.declared.kinds.Kind.{Kind}
 use Rattle.node_spec.specs.Kinds.{is_leaf, kind_of, header_at, pointers_at}
@@ -12,6 +12,13 @@ pub record Node : Type 0 where
   pub kind : Kind
   pub cells : List NodeCell
   pub right : ℕ
+
+-- the cell of a node at a place; one that is empty where there is none
+abbrev pub no_cell : NodeCell
+no_cell = record { left = 0; rowid = pos 0; payload = 0; local = []; overflow = 0; size = 0 }
+
+abbrev pub cell_at : Node → ℕ → NodeCell
+cell_at node k = slice_index_or node.cells k no_cell
 
 -- the right child in a page
 unfoldable pub right_in : (first : Bool) → Kind → List ℕ → ℕ

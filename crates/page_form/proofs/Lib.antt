@@ -1,0 +1,2 @@
+pub mod CellReads
+pub mod Checks
