@@ -1,2 +1,5 @@
 pub mod CellReads
 pub mod Checks
+pub mod Marking
+pub mod Chains
+pub mod Contents

@@ -1,11 +1,7 @@
--- Marks of bytes: in how many pieces each is, up to 2.
-use Rattle.std.specs.Prelude.{◌≡◌, ℕ, ◌+◌, ◌<◌, min, List, length, slice_index}
+-- Marks of bytes, one for each usable byte of a page.
+use Rattle.std.specs.Prelude.{◌≡◌, ℕ, ◌+◌, min, List, slice_index}
 use Rattle.node_spec.specs.Layout.{Piece, cover}
 
--- the marks count the pieces that have each byte
-abbrev pub AreMarks : List ℕ → List Piece → Type 0
-AreMarks marks pieces = (k : ℕ) → slice_index marks k ≡ min 2 (cover pieces k)
-
--- the marks count these pieces besides
-abbrev pub AreMore : (old new : List ℕ) → List Piece → Type 0
-AreMore old new pieces = (k : ℕ) → slice_index new k ≡ min 2 (slice_index old k + cover pieces k)
+-- the marks tell in how many cells and freeblocks each byte is, up to 2
+abbrev pub AreMarks : List ℕ → (cells blocks : List Piece) → Type 0
+AreMarks marks cells blocks = (k : ℕ) → slice_index marks k ≡ min 2 (cover cells k + cover blocks k)

@@ -1,11 +1,11 @@
 // The content of a page: its cells and its freeblocks, that no byte is in two of them, and that the fragments are what is left.
 //
-// In how many cells and freeblocks a byte is stands in an array of marks, one for each usable byte, which stop at 2.
-ghost use Rattle.std.specs.Prelude.{◌≡◌, ℕ, ◌+◌, ◌*◌, ◌<◌, ◌≤◌, ◌⊎◌, min, length, slice_index, List, MatchResult, Some, None};
+// How many cells and freeblocks have a byte stands in an array of marks, one for each usable byte, which stop at 2.
+ghost use Rattle.std.specs.Prelude.{◌≡◌, ℕ, ◌+◌, ◌*◌, ◌^◌, ◌==◌, ◌&&◌, nat_le, ◌<◌, ◌≤◌, ◌⊎◌, min, length, slice_index, List, [], suc, MatchResult, Some, None};
 ghost use Rattle.page_spec.specs.Bytes.{u16_at};
 ghost use Rattle.node_spec.specs.Layout.{Piece, cover, taken, content_start};
 ghost use Rattle.node_spec.specs.Faults.{first_fault, cell_fault, cells_in, blocks_in, chain_fault, byte_fault, content_fault, is_block, has_fragments};
-ghost use Rattle.page_form.specs.Marks.{AreMarks, AreMore};
+ghost use Rattle.page_form.specs.Marks.{AreMarks};
 
 use be_fields::get_u16;
 use node_spec::Kind;
@@ -15,6 +15,9 @@ use crate::front::content_start;
 
 /// Pages of at most so many usable bytes are checked with a small array of marks.
 const SMALL: usize = 4096;
+
+/// The most usable bytes of a page.
+const LARGE: usize = 65536;
 
 // Marks bytes once more.
 fn mark(marks: &mut [u8], start: usize, len: usize)
@@ -26,4 +29,113 @@ fn mark(marks: &mut [u8], start: usize, len: usize)
         let more = if marks[k] == 0 { 1 } else { 2 };
         marks[k] = more;
     }
+}
+
+// Marks all cells, and tells how many bytes they have together, or the start of the first one that isn't whole.
+fn mark_cells(bytes: &[u8], u: usize, kind: Kind, pointers: usize, count: usize, marks: &mut [u8]) -> Result<usize, usize>
+    requires usable { (480 ≤ u) × (u ≤ 65536) × (u ≤ length bytes.now) }
+    requires room { pointers + 2 * count ≤ u }
+    requires marks { (length marks.old ≡ u) × AreMarks marks.old [] [] }
+    ensures { MatchResult result
+        (λ sum. (first_fault count (cell_fault u kind bytes.now pointers) ≡ None) × (sum ≡ taken (cells_in u kind bytes.now pointers count))
+        × (sum ≤ 65536 * count) × AreMarks marks.new (cells_in u kind bytes.now pointers count) [])
+        (λ at. first_fault count (cell_fault u kind bytes.now pointers) ≡ Some at) }
+{
+    let mut sum = 0;
+    for i in 0..count {
+        let start = get_u16(bytes, pointers + 2 * i);
+        let Some(len) = cell_len(bytes, u, kind, start) else {
+            return Err(usize::from(start));
+        };
+        mark(marks, usize::from(start), len);
+        sum += len;
+    }
+    Ok(sum)
+}
+
+// Whether at a place in the content is a freeblock, behind the place before.
+#[tactic(auto, unfolding(node_spec::specs::Faults::is_block))]
+fn is_block(bytes: &[u8], u: usize, content: usize, before: usize, at: usize) -> bool
+    requires { (u ≤ length bytes.now) × (at < 65536) }
+    ensures { result ≡ is_block u content bytes.now before at }
+{
+    if before >= at || at < content || at + 4 > u {
+        return false;
+    }
+    let size = usize::from(get_u16(bytes, at + 2));
+    size >= 4 && at + size <= u
+}
+
+// Marks all freeblocks of the chain from a place on, and tells how many bytes they have together, or the first place that breaks the chain.
+fn mark_blocks(bytes: &[u8], u: usize, content: usize, first: u16, marks: &mut [u8]) -> Result<usize, usize>
+    requires usable { (u ≤ 65536) × (u ≤ length bytes.now) }
+    requires marks { length marks.old ≡ u }
+    ensures { MatchResult result
+        (λ sum. (chain_fault (suc u) u content bytes.now 0 first ≡ None) × (sum ≡ taken (blocks_in (suc u) bytes.now first))
+        × (sum ≤ 65536 * u) × ((cells : List Piece) → AreMarks marks.old cells [] → AreMarks marks.new cells (blocks_in (suc u) bytes.now first)))
+        (λ at. chain_fault (suc u) u content bytes.now 0 first ≡ Some at) }
+{
+    let mut sum = 0;
+    let mut before = 0;
+    let mut at = usize::from(first);
+    while at != 0 {
+        if !is_block(bytes, u, content, before, at) {
+            return Err(at);
+        }
+        let size = usize::from(get_u16(bytes, at + 2));
+        mark(marks, at, size);
+        sum += size;
+        before = at;
+        at = usize::from(get_u16(bytes, at));
+    }
+    Ok(sum)
+}
+
+// The first byte that is in two pieces.
+fn shared_byte(marks: &[u8]) -> Option<usize>
+    ensures { (cells blocks : List Piece) → AreMarks marks.now cells blocks → result ≡ first_fault (length marks.now) (byte_fault cells blocks) }
+{
+    for k in 0..marks.len() {
+        if marks[k] > 1 {
+            return Some(k);
+        }
+    }
+    None
+}
+
+// Checks the content of a page whose header stands at `at` and its pointers at `pointers`, and tells how many bytes its cells have
+// together.
+fn check_marked(bytes: &[u8], u: usize, at: usize, pointers: usize, kind: Kind, marks: &mut [u8]) -> Result<usize, usize>
+    requires usable { (480 ≤ u) × (u ≤ 65536) × (u ≤ length bytes.now) }
+    requires room { (at + 8 ≤ pointers) × (pointers + 2 * u16_at bytes.now (at + 3) ≤ u) }
+    requires marks { (length marks.old ≡ u) × AreMarks marks.old [] [] }
+    ensures { MatchResult result
+        (λ sum. (content_fault u at pointers kind bytes.now ≡ None) × (sum ≡ taken (cells_in u kind bytes.now pointers (u16_at bytes.now (at + 3)))))
+        (λ fault. content_fault u at pointers kind bytes.now ≡ Some fault) }
+{
+    let count = usize::from(get_u16(bytes, at + 3));
+    let content = content_start(bytes, at);
+    let cells = match mark_cells(bytes, u, kind, pointers, count, marks) {
+        Ok(cells) => cells,
+        Err(start) => return Err(start),
+    };
+    let blocks = match mark_blocks(bytes, u, content, get_u16(bytes, at + 1), marks) {
+        Ok(blocks) => blocks,
+        Err(start) => return Err(start),
+    };
+    if let Some(byte) = shared_byte(marks) {
+        return Err(byte);
+    }
+    if !are_fragments(bytes[at + 7], u, content, cells + blocks) {
+        return Err(at + 7);
+    }
+    Ok(cells)
+}
+
+// Whether so many fragment bytes may be, and are what the cells and freeblocks leave of the content.
+fn are_fragments(fragments: u8, u: usize, content: usize, taken: usize) -> bool
+    requires { content + taken < 2 ^ 63 }
+    ensures { result ≡ (nat_le fragments 60 && content + taken + fragments == u) }
+{
+    fragments <= 60 && content + taken + usize::from(fragments) == u
 }
