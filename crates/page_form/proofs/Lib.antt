@@ -3,3 +3,4 @@ pub mod Checks
 pub mod Marking
 pub mod Chains
 pub mod Contents
+pub mod Pages

@@ -3,9 +3,9 @@
 // How many cells and freeblocks have a byte stands in an array of marks, one for each usable byte, which stop at 2.
 ghost use Rattle.std.specs.Prelude.{◌≡◌, ℕ, ◌+◌, ◌*◌, ◌^◌, ◌==◌, ◌&&◌, nat_le, ◌<◌, ◌≤◌, ◌⊎◌, min, length, slice_index, List, [], suc, MatchResult, Some, None};
 ghost use Rattle.page_spec.specs.Bytes.{u16_at};
-ghost use Rattle.node_spec.specs.Layout.{Piece, cover, taken, content_start};
-ghost use Rattle.node_spec.specs.Faults.{first_fault, cell_fault, cells_in, blocks_in, chain_fault, byte_fault, content_fault, is_block, has_fragments};
-ghost use Rattle.page_form.specs.Marks.{AreMarks};
+ghost use Rattle.node_spec.specs.Layout.{Piece, taken};
+ghost use Rattle.node_spec.specs.Faults.{first_fault, cell_fault, cells_in, blocks_in, chain_fault, byte_fault, is_block};
+ghost use Rattle.page_form.specs.Marks.{AreMarks, IsCheckedContent};
 
 use be_fields::get_u16;
 use node_spec::Kind;
@@ -35,7 +35,7 @@ fn mark(marks: &mut [u8], start: usize, len: usize)
 fn mark_cells(bytes: &[u8], u: usize, kind: Kind, pointers: usize, count: usize, marks: &mut [u8]) -> Result<usize, usize>
     requires usable { (480 ≤ u) × (u ≤ 65536) × (u ≤ length bytes.now) }
     requires room { pointers + 2 * count ≤ u }
-    requires marks { (length marks.old ≡ u) × AreMarks marks.old [] [] }
+    requires marks { (u ≤ length marks.old) × AreMarks marks.old [] [] }
     ensures { MatchResult result
         (λ sum. (first_fault count (cell_fault u kind bytes.now pointers) ≡ None) × (sum ≡ taken (cells_in u kind bytes.now pointers count))
         × (sum ≤ 65536 * count) × AreMarks marks.new (cells_in u kind bytes.now pointers count) [])
@@ -69,7 +69,7 @@ fn is_block(bytes: &[u8], u: usize, content: usize, before: usize, at: usize) ->
 // Marks all freeblocks of the chain from a place on, and tells how many bytes they have together, or the first place that breaks the chain.
 fn mark_blocks(bytes: &[u8], u: usize, content: usize, first: u16, marks: &mut [u8]) -> Result<usize, usize>
     requires usable { (u ≤ 65536) × (u ≤ length bytes.now) }
-    requires marks { length marks.old ≡ u }
+    requires marks { u ≤ length marks.old }
     ensures { MatchResult result
         (λ sum. (chain_fault (suc u) u content bytes.now 0 first ≡ None) × (sum ≡ taken (blocks_in (suc u) bytes.now first))
         × (sum ≤ 65536 * u) × ((cells : List Piece) → AreMarks marks.old cells [] → AreMarks marks.new cells (blocks_in (suc u) bytes.now first)))
@@ -91,11 +91,12 @@ fn mark_blocks(bytes: &[u8], u: usize, content: usize, first: u16, marks: &mut [
     Ok(sum)
 }
 
-// The first byte that is in two pieces.
-fn shared_byte(marks: &[u8]) -> Option<usize>
-    ensures { (cells blocks : List Piece) → AreMarks marks.now cells blocks → result ≡ first_fault (length marks.now) (byte_fault cells blocks) }
+// The first of so many bytes that is in two pieces.
+fn shared_byte(marks: &[u8], u: usize) -> Option<usize>
+    requires { u ≤ length marks.now }
+    ensures { (cells blocks : List Piece) → AreMarks marks.now cells blocks → result ≡ first_fault u (byte_fault cells blocks) }
 {
-    for k in 0..marks.len() {
+    for k in 0..u {
         if marks[k] > 1 {
             return Some(k);
         }
@@ -103,16 +104,55 @@ fn shared_byte(marks: &[u8]) -> Option<usize>
     None
 }
 
-// Checks the content of a page whose header stands at `at` and its pointers at `pointers`, and tells how many bytes its cells have
-// together.
+/// Checks the content of a page whose header stands at `at` and its pointers at `pointers`.
+///
+/// Ok tells how many bytes its cells have together, Err the first field of the content that breaks the text of a page.
+pub(crate) fn check_content(bytes: &[u8], u: usize, at: usize, pointers: usize, kind: Kind) -> Result<usize, usize>
+    requires usable { (480 ≤ u) × (u ≤ 65536) × (u ≤ length bytes.now) }
+    requires room { (at + 8 ≤ pointers) × (pointers + 2 * u16_at bytes.now (at + 3) ≤ u) }
+    ensures { IsCheckedContent u at pointers kind bytes.now result }
+{
+    if u <= SMALL {
+        check_small(bytes, u, at, pointers, kind)
+    } else {
+        check_large(bytes, u, at, pointers, kind)
+    }
+}
+
+// The same with marks for a small page, and for any page: a function pays at its entry for all the marks that it may need.
+fn check_small(bytes: &[u8], u: usize, at: usize, pointers: usize, kind: Kind) -> Result<usize, usize>
+    requires usable { (480 ≤ u) × (u ≤ 4096) × (u ≤ length bytes.now) }
+    requires room { (at + 8 ≤ pointers) × (pointers + 2 * u16_at bytes.now (at + 3) ≤ u) }
+    ensures { IsCheckedContent u at pointers kind bytes.now result }
+{
+    let mut marks = [0u8; SMALL];
+    check_marked(bytes, u, at, pointers, kind, &mut marks)
+}
+
+fn check_large(bytes: &[u8], u: usize, at: usize, pointers: usize, kind: Kind) -> Result<usize, usize>
+    requires usable { (480 ≤ u) × (u ≤ 65536) × (u ≤ length bytes.now) }
+    requires room { (at + 8 ≤ pointers) × (pointers + 2 * u16_at bytes.now (at + 3) ≤ u) }
+    ensures { IsCheckedContent u at pointers kind bytes.now result }
+{
+    let mut marks = [0u8; LARGE];
+    check_marked(bytes, u, at, pointers, kind, &mut marks)
+}
+
+// Wipes all marks.
+fn wipe(marks: &mut [u8])
+    ensures { AreMarks marks.new [] [] }
+{
+    marks.fill(0);
+}
+
+// Checks the content of a page with these marks, which are wiped first.
 fn check_marked(bytes: &[u8], u: usize, at: usize, pointers: usize, kind: Kind, marks: &mut [u8]) -> Result<usize, usize>
     requires usable { (480 ≤ u) × (u ≤ 65536) × (u ≤ length bytes.now) }
     requires room { (at + 8 ≤ pointers) × (pointers + 2 * u16_at bytes.now (at + 3) ≤ u) }
-    requires marks { (length marks.old ≡ u) × AreMarks marks.old [] [] }
-    ensures { MatchResult result
-        (λ sum. (content_fault u at pointers kind bytes.now ≡ None) × (sum ≡ taken (cells_in u kind bytes.now pointers (u16_at bytes.now (at + 3)))))
-        (λ fault. content_fault u at pointers kind bytes.now ≡ Some fault) }
+    requires marks { u ≤ length marks.old }
+    ensures { IsCheckedContent u at pointers kind bytes.now result }
 {
+    wipe(marks);
     let count = usize::from(get_u16(bytes, at + 3));
     let content = content_start(bytes, at);
     let cells = match mark_cells(bytes, u, kind, pointers, count, marks) {
@@ -123,7 +163,7 @@ fn check_marked(bytes: &[u8], u: usize, at: usize, pointers: usize, kind: Kind, 
         Ok(blocks) => blocks,
         Err(start) => return Err(start),
     };
-    if let Some(byte) = shared_byte(marks) {
+    if let Some(byte) = shared_byte(marks, u) {
         return Err(byte);
     }
     if !are_fragments(bytes[at + 7], u, content, cells + blocks) {

@@ -9,6 +9,7 @@ mod content;
 mod front;
 mod kinds;
 mod page;
+mod read;
 
 mod sizes;
 
@@ -17,4 +18,5 @@ pub use front::content_start;
 pub use kinds::{flag_of, header_at, header_size, is_leaf, kind_of, pointers_at};
 pub use node_spec::Kind;
 pub use page::{Page, PageFault};
+pub use read::read_page;
 

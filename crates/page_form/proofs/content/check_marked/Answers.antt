@@ -22,8 +22,7 @@ returns-in-Some c =
     (blocks_in (suc c.args.u) c.args.bytes.now c.get_u16-2.result) marks in
     fault_in_bytes c.args.u c.args.at c.args.pointers c.args.kind c.args.bytes.now c.from-count.result c.content_start-content.result c.get_u16-2.result
     (c.from-count.ensures ∙ c.get_u16.ensures) c.content_start-content.ensures.start c.get_u16-2.ensures c.in-Some.byte c.in-Ok.ensures.0 c.in-Ok-mark_blocks.ensures.0
-    (subst (λ n. first_fault n (byte_fault (cells_in c.args.u c.args.kind c.args.bytes.now c.args.pointers c.from-count.result) (blocks_in (suc c.args.u) c.args.bytes.now c.get_u16-2.result)) ≡ Some c.in-Some.byte)
-    (omega (arith, c.requires.marks.0, c.mark_cells.auto.marks, c.mark_blocks.auto.marks)) (sym first ∙ c.in-Some.is))
+    (sym first ∙ c.in-Some.is)
 
 pub returns-then-not-are_fragments : goal.returns-then-not-are_fragments
 returns-then-not-are_fragments c =
@@ -33,8 +32,7 @@ returns-then-not-are_fragments c =
     fault_in_fragments c.args.u c.args.at c.args.pointers c.args.kind c.args.bytes.now c.from-count.result c.content_start-content.result c.get_u16-2.result
     (c.from-count.ensures ∙ c.get_u16.ensures) c.content_start-content.ensures.start c.get_u16-2.ensures c.in-Ok.cells c.in-Ok-mark_blocks.blocks
     c.in-Ok.ensures.0 c.in-Ok-mark_blocks.ensures.0
-    (subst (λ n. first_fault n (byte_fault (cells_in c.args.u c.args.kind c.args.bytes.now c.args.pointers c.from-count.result) (blocks_in (suc c.args.u) c.args.bytes.now c.get_u16-2.result)) ≡ None)
-    (omega (arith, c.requires.marks.0, c.mark_cells.auto.marks, c.mark_blocks.auto.marks)) (sym first ∙ c.in_default.is))
+    (sym first ∙ c.in_default.is)
     c.in-Ok.ensures.1 c.in-Ok-mark_blocks.ensures.1 (sym c.are_fragments.ensures ∙ c.if-not-are_fragments.true)
 
 pub returns : goal.returns
@@ -46,8 +44,7 @@ returns c =
       no_fault c.args.u c.args.at c.args.pointers c.args.kind c.args.bytes.now c.from-count.result c.content_start-content.result c.get_u16-2.result
       (c.from-count.ensures ∙ c.get_u16.ensures) c.content_start-content.ensures.start c.get_u16-2.ensures c.in-Ok.cells c.in-Ok-mark_blocks.blocks
       c.in-Ok.ensures.0 c.in-Ok-mark_blocks.ensures.0
-      (subst (λ n. first_fault n (byte_fault (cells_in c.args.u c.args.kind c.args.bytes.now c.args.pointers c.from-count.result) (blocks_in (suc c.args.u) c.args.bytes.now c.get_u16-2.result)) ≡ None)
-      (omega (arith, c.requires.marks.0, c.mark_cells.auto.marks, c.mark_blocks.auto.marks)) (sym first ∙ c.in_default.is))
+      (sym first ∙ c.in_default.is)
       c.in-Ok.ensures.1 c.in-Ok-mark_blocks.ensures.1 (sym c.are_fragments.ensures ∙ c.if-not-are_fragments.false),
       c.in-Ok.ensures.1 ∙ ap (λ n. taken (cells_in c.args.u c.args.kind c.args.bytes.now c.args.pointers n)) (c.from-count.ensures ∙ c.get_u16.ensures),
     )
