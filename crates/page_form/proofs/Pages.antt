@@ -94,3 +94,21 @@ good_page usable first page at pointers kind sum least most long is some place n
       room = omega (arith, shown_fits shows, count, b.1, sum_here);
       right = refl;
     }
+
+pub tells_page : {usable : ℕ} {first : Bool} {bytes : List ℕ} {kind : Kind} {sum : ℕ} (good : GoodPage usable first bytes kind sum)
+    → (pointers count : ℕ) (page : Page) → pointers ≡ pointers_at first kind → count ≡ u16_at bytes (header_at first + 3)
+    → page.kind ≡ kind → vec_len page.cells ≡ count → ((i : ℕ) → i < count → get_or page.cells.items i 0 ≡ u16_at bytes (pointers + 2 * i))
+    → page.right ≡ right_in first kind bytes → page.free ≡ usable - (pointers + 2 * count + sum)
+    → Tells usable first bytes page good.node
+tells_page {usable} {first} {bytes} {kind} {sum} good pointers count page place count_is kind_is len same right free = record {
+  shown = good.shown;
+  kind = kind_is ∙ sym good.kind_is;
+  count = len ∙ count_is ∙ sym good.count;
+  pointers = λ i l.
+      same i (omega (arith, good.count, count_is)) ∙ ap (λ n. u16_at bytes (n + 2 * i)) (place ∙ ap (pointers_at first) (sym good.kind_is));
+  right = right ∙ sym good.right;
+  free = free ∙ free_is;
+}
+  where
+    free_is : usable - (pointers + 2 * count + sum) ≡ free_of usable first good.node
+    free_is = omega (arith, place, ap (pointers_at first) good.kind_is, good.count, count_is, good.bytes)
