@@ -1,16 +1,20 @@
 -- A cell that stands at a place of a page reads there as it does alone.
-use Rattle.std.proofs.Common.{◌≡◌, ℕ, ◌+◌, ◌-◌, ◌<◌, ◌≤◌, max, nat_le, take-append-drop, List, ◌++◌, length, drop, take, take_at, get_or, slice_range, zero-add, length-append, refl, sym, ap, ◌∙◌, arith, length-drop}
+use Rattle.std.proofs.Common.{◌≡◌, ℕ, ◌+◌, ◌-◌, ◌<◌, ◌≤◌, max, nat_le, take-append-drop, List, ◌++◌, length, drop, take, take_at, get_or, slice_range, zero-add, length-append, append-nil, replicate, ◌⊎◌, inl, inr, refl, sym, ap, ◌∙◌, arith, length-drop}
 use Rattle.std.specs.List.{prefix_len}
 use Rattle.std.proofs.lemmas.List.{drop-append-le, take-append-le, get_or-drop, get_or-take, length-take, length-take-le}
 use Rattle.std.proofs.lemmas.List.Folds.{length-prefix_len}
 use Rattle.std.proofs.lemmas.List.Sums.{prefix_len_stops, prefix_len_passes, prefix_len-le-length}
+use Rattle.std.proofs.lemmas.Bool.{cases_lt}
 use Rattle.std.proofs.lemmas.Bool.Decides.{nat_tests}
 use Rattle.std.proofs.lemmas.Grind.{same_number_lists, common_steps}
 use Rattle.page_spec.specs.Varint.{carrying, varint_size, varint_number, BeginsWithVarint}
 use Rattle.page_spec.proofs.VarintLaws.{begins_append, varint_is, varint_size_bounds}
 use Rattle.node_spec.specs.declared.kinds.Kind.{Kind}
 use Rattle.node_spec.specs.declared.kinds.Kind.TheVariants.{IndexInner, TableInner, IndexLeaf, TableLeaf}
-use Rattle.node_spec.specs.Cells.{keys_size, payload_in, rowid_in, body_size, left_size, cell_size, IsCell}
+use Rattle.std.proofs.Common.{Bool, true, false}
+use Rattle.std.proofs.lemmas.List.{length-replicate}
+use Rattle.node_spec.specs.Kinds.{is_leaf, is_table}
+use Rattle.node_spec.specs.Cells.{keys_size, payload_in, rowid_in, body_size, left_size, cell_size, stored_size, spills, local_size, payload_at, cell_in, IsCell, IsOneCell, padded}
 use Rattle.node_spec.specs.Faults.{rest_at, cell_piece}
 
 -- the bytes of a whole varint: all before its last say that another follows
@@ -200,3 +204,75 @@ reads_cell kind usable page text start whole same room long =
       whole = omega (arith, ap (λ (xs : List ℕ). length xs) split, length-append body more);
       size = rw (same_keys, same_payload) (sym whole);
     }
+
+-- A short cell is filled up, and holds the same.
+pad_long : (text : List ℕ) → 4 ≤ length text → padded text ≡ text
+pad_long text long = let none : 4 - length text ≡ 0 = omega arith in rw none (append-nil text)
+
+pub length-padded : (text : List ℕ) → length (padded text) ≡ max 4 (length text)
+length-padded text = omega (arith, length-append text (replicate (4 - length text) 0), length-replicate {A = ℕ} (4 - length text) 0)
+
+pub padded_cell : (kind : Kind) (usable : ℕ) (text : List ℕ) → IsOneCell kind usable text → IsCell kind usable (padded text)
+unfolding cell_size
+padded_cell kind usable text (inr whole) = rw (pad_long text (omega arith)) whole
+padded_cell kind usable text (inl plain) =
+    let left = left_size kind in
+    let more : List ℕ = replicate (4 - length text) 0 in
+    let behind : drop left (padded text) ≡ drop left text ++ more = drop-append-le left text more (omega arith) in
+    let size = body_front kind usable (drop left text) more (omega (arith, length-drop left text)) in
+    rw (behind, size) (omega (arith, length-padded text))
+
+-- a text of fewer than 4 bytes has no left child and no overflow page
+short_leaf : (kind : Kind) (usable : ℕ) (text : List ℕ) → left_size kind + body_size kind usable (drop (left_size kind) text) ≡ length text → length text < 4
+    → (is_leaf kind ≡ true) × (spills (is_table kind) usable (payload_in kind (drop (left_size kind) text)) ≡ false)
+unfolding body_size stored_size
+short_leaf IndexInner usable text plain short = absurd (omega arith)
+short_leaf TableInner usable text plain short = absurd (omega arith)
+short_leaf IndexLeaf usable text plain short = (refl, no_spill (spills false usable (payload_in IndexLeaf text)) refl)
+  where
+    no_spill : (b : Bool) → spills false usable (payload_in IndexLeaf text) ≡ b → spills false usable (payload_in IndexLeaf text) ≡ false
+    no_spill false is = is
+    no_spill true is = let e = rw is at plain in absurd (omega arith)
+short_leaf TableLeaf usable text plain short = (refl, no_spill (spills true usable (payload_in TableLeaf text)) refl)
+  where
+    no_spill : (b : Bool) → spills true usable (payload_in TableLeaf text) ≡ b → spills true usable (payload_in TableLeaf text) ≡ false
+    no_spill false is = is
+    no_spill true is = let e = rw is at plain in absurd (omega arith)
+
+slice_front : (text more : List ℕ) (at end : ℕ) → at ≤ length text → end ≤ length text → slice_range (text ++ more) at end ≡ slice_range text at end
+slice_front text more at end low high =
+    ap (take (end - at)) (drop-append-le at text more low) ∙ take-append-le (end - at) (drop at text) more (omega (arith, length-drop at text))
+
+local_least : (table : Bool) (usable payload : ℕ) → local_size table usable payload ≤ stored_size table usable payload
+unfolding stored_size
+local_least table usable payload = omega arith
+
+padded_short : (kind : Kind) (usable : ℕ) (text : List ℕ) → left_size kind + body_size kind usable (drop (left_size kind) text) ≡ length text → length text < 4
+    → cell_in kind usable (padded text) ≡ cell_in kind usable text
+unfolding cell_in payload_at body_size
+padded_short kind usable text plain short =
+    let left = left_size kind in
+    let more : List ℕ = replicate (4 - length text) 0 in
+    let body = drop left text in
+    let fits : left ≤ length text = omega arith in
+    let behind : drop left (text ++ more) ≡ body ++ more = drop-append-le left text more fits in
+    let keys : keys_size kind body ≤ length body = omega (arith, length-drop left text) in
+    let k = keys_front kind body more keys in
+    let s = short_leaf kind usable text plain short in
+    let low = local_least (is_table kind) usable (payload_in kind body) in
+    let range : slice_range (text ++ more) (left + keys_size kind body) (left + keys_size kind body + local_size (is_table kind) usable (payload_in kind body))
+        ≡ slice_range text (left + keys_size kind body) (left + keys_size kind body + local_size (is_table kind) usable (payload_in kind body)) =
+    slice_front text more _ _ (omega arith) (omega arith) in
+    let size : max 4 (length (text ++ more)) ≡ max 4 (length text) = omega (arith, length-append text more, length-replicate {A = ℕ} (4 - length text) 0) in
+    rw (behind, k.0, k.1, k.2, s.0, s.1, range, size) refl
+
+least_cell : (kind : Kind) (usable : ℕ) (text : List ℕ) → IsCell kind usable text → 4 ≤ length text
+unfolding cell_size
+least_cell kind usable text whole = omega arith
+
+pub padded_same : (kind : Kind) (usable : ℕ) (text : List ℕ) → IsOneCell kind usable text → cell_in kind usable (padded text) ≡ cell_in kind usable text
+padded_same kind usable text (inr whole) = ap (cell_in kind usable) (pad_long text (least_cell kind usable text whole))
+padded_same kind usable text (inl plain) = elim (cases_lt (length text) 4) [
+  | inl short ↦ padded_short kind usable text plain short
+  | inr long ↦ ap (cell_in kind usable) (pad_long text long)
+]

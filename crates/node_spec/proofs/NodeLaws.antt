@@ -1,5 +1,5 @@
 -- A page's text and the node that it shows: as a function and as a relation, and on which bytes they stand.
-use Rattle.std.proofs.Common.{◌≡◌, ℕ, ◌+◌, ◌-◌, ◌*◌, ◌<◌, ◌≤◌, ◌&&◌, Bool, true, false, Option, None, Some, suc, if◌then◌else◌, is_none, List, [], ◌∷◌, length, get_or, take, drop, refl, sym, ap, subst, ◌∙◌, inl, inr, arith, length-drop, length-append, drop-drop}
+use Rattle.std.proofs.Common.{All, max, ◌≡◌, ℕ, ◌+◌, ◌-◌, ◌*◌, ◌<◌, ◌≤◌, ◌&&◌, Bool, true, false, Option, None, Some, suc, if◌then◌else◌, is_none, List, [], ◌∷◌, length, get_or, take, drop, refl, sym, ap, subst, ◌∙◌, inl, inr, arith, length-drop, length-append, drop-drop}
 use Rattle.std.proofs.lemmas.Bool.Decides.{nat_tests}
 use Rattle.std.proofs.lemmas.Grind.{common_steps}
 use Rattle.std.proofs.lemmas.Bool.{cases_lt}
@@ -220,18 +220,22 @@ pub freelist_aside : (usable : ℕ) (a b : List ℕ) → but_freelist a ≡ but_
 freelist_aside usable a b same = first_alike usable a b (sym (past_freelist a) ∙ ap (drop 92) same ∙ past_freelist b)
 
 -- What a page shows fits it: header, pointers and cells.
-taken_cells : (kind : Kind) (usable : ℕ) (pieces : List Piece) → cell_bytes (cells_of kind usable pieces) ≡ taken pieces
+taken_cells : (kind : Kind) (usable : ℕ) (pieces : List Piece) → All (λ (piece : Piece). 4 ≤ length piece.bytes) pieces
+    → cell_bytes (cells_of kind usable pieces) ≡ taken pieces
 unfolding cell_in
-taken_cells kind usable [] = refl
-taken_cells kind usable (piece ∷ pieces) =
+taken_cells kind usable [] some = refl
+taken_cells kind usable (piece ∷ pieces) some =
+    let here : 4 ≤ length piece.bytes = some 0 piece (omega arith) in
+    let size : max 4 (length piece.bytes) ≡ length piece.bytes = omega arith in
     sum_by-cons (λ (cell : NodeCell). cell.size) (cell_in kind usable piece.bytes) (cells_of kind usable pieces)
-    ∙ ap (λ n. length piece.bytes + n) (taken_cells kind usable pieces) ∙ sym (sum_by-cons size_of piece pieces)
+    ∙ ap (λ n. n + cell_bytes (cells_of kind usable pieces)) size
+    ∙ ap (λ n. length piece.bytes + n) (taken_cells kind usable pieces (λ i d l. some (suc i) d (omega arith))) ∙ sym (sum_by-cons size_of piece pieces)
 
 pub shown_bytes : {usable : ℕ} {first : Bool} {page : List ℕ} {node : Node} (s : Shows usable first page node)
     → (length node.cells ≡ length s.cells) × (cell_bytes node.cells ≡ taken s.cells)
 shown_bytes {usable} {node = node} s = (
   ap (λ (cells : List NodeCell). length cells) s.cells_are ∙ length-map s.cells (λ (piece : Piece). cell_in node.kind usable piece.bytes),
-  ap cell_bytes s.cells_are ∙ taken_cells node.kind usable s.cells,
+  ap cell_bytes s.cells_are ∙ taken_cells node.kind usable s.cells (λ i d l. (s.is_page.holds.stand i d l).some),
 )
 
 pub shown_fits : {usable : ℕ} {first : Bool} {page : List ℕ} {node : Node} → Shows usable first page node

@@ -8,7 +8,7 @@
 --
 -- Of a payload that is too large a part is stored in the cell, and the number of the first overflow page follows in 4 bytes.
 -- A cell takes at least 4 bytes of its page.
-use Rattle.std.specs.Prelude.{◌≡◌, ℕ, ℤ, ◌+◌, ◌-◌, ◌*◌, ◌/◌, ◌%◌, max, Bool, nat_le, nat_lt, if◌then◌else◌, List, length, drop, slice_range}
+use Rattle.std.specs.Prelude.{◌≡◌, ℕ, ℤ, ◌+◌, ◌-◌, ◌*◌, ◌/◌, ◌%◌, max, Bool, nat_le, nat_lt, if◌then◌else◌, List, ◌++◌, ◌⊎◌, length, drop, replicate, slice_range}
 use Rattle.std.specs.Int.{cast_signed, w64}
 use Rattle.page_spec.specs.Bytes.{u32_at}
 use Rattle.page_spec.specs.Varint.{varint_size, varint_number}
@@ -84,7 +84,15 @@ cell_size kind usable bytes = max 4 (left_size kind + body_size kind usable (dro
 abbrev pub IsCell : Kind → ℕ → List ℕ → Type 0
 IsCell kind usable text = cell_size kind usable text ≡ length text
 
--- What a cell holds. A field that a cell hasn't is 0. The size is that of its text.
+-- the bytes are just one cell, or one of fewer than 4 bytes that nothing fills up yet
+abbrev pub IsOneCell : Kind → ℕ → List ℕ → Type 0
+IsOneCell kind usable text = (left_size kind + body_size kind usable (drop (left_size kind) text) ≡ length text) ⊎ IsCell kind usable text
+
+-- the bytes filled up to 4
+abbrev pub padded : List ℕ → List ℕ
+padded text = text ++ replicate (4 - length text) 0
+
+-- What a cell holds. A field that a cell hasn't is 0. The size is how many bytes it takes of its page.
 pub record NodeCell : Type 0 where
   pub left : ℕ
   pub rowid : ℤ
@@ -110,5 +118,5 @@ cell_in kind usable text =
       payload = payload;
       local = slice_range text at end;
       overflow = if spills (is_table kind) usable payload then u32_at text end else 0;
-      size = length text;
+      size = max 4 (length text);
     }
