@@ -188,7 +188,7 @@ cell_tells kind usable bytes text start left keys local payload rowid stored tol
       inside = omega arith;
       whole = subst (λ xs. IsCell kind usable xs) (sym range) stands.whole;
       spells = ap (cell_in kind usable) range;
-      size = len;
+      size = omega (arith, len, some);
       left = left_told ∙ if_other (is_leaf kind) (u32_at bytes start) (u32_at text 0) (number_here bytes text start 0 start same some (omega arith));
       rowid = rowid_told ∙ ap (cast_signed w64) (r0 ∙ r.rowid);
       payload = payload_told ∙ p;
