@@ -17,6 +17,7 @@ use Rattle.node_spec.specs.Faults.{rest_at}
 use Rattle.node_spec.proofs.CellLaws.{cell_stands}
 use Rattle.node_spec.proofs.PieceLaws.{stands-kept, hit_most, hit_none}
 use Rattle.page_edit.specs.Forms.{texts_of, DropsPointer, KeepsRest}
+use Rattle.page_edit.specs.declared.form.Form.{Form}
 use Rattle.page_edit.specs.Packing.{packed, Moved}
 use Rattle.page_edit.proofs.Lists.{each-remove}
 
@@ -282,3 +283,16 @@ free_less {cells = cells} h i free less is =
     let most = sum_by-take-le size_of cells (i + 1) in
     let low : length (get_or cells i nowhere).bytes ≤ free = omega (arith, more, most, h.fits, h.room) in
     (low, omega (arith, more, low))
+
+-- what packing leaves
+pub packed_keeps : (form : Form) (old mid new : List ℕ) {content end : ℕ} {cells : List Piece} → HasCells form.u form.at form.pointers content form.kind old cells
+    → Moved form.u form.pointers old mid cells end (length cells) → DiffersOnlyWithin mid new (form.at + 1) (form.at + 8) → KeepsRest form old new
+packed_keeps form old mid new {cells = cells} h m others =
+    let low = h.head in
+    let room : form.pointers ≤ form.u = omega (arith, h.room, h.fits) in
+    record {
+      same_length = others.same_length ∙ m.same_length;
+      head = λ j l. others.before j (omega arith) ∙ m.front j (omega arith);
+      right = λ j l n. others.after j (omega arith) ∙ m.front j n;
+      past = λ j l. others.after j (omega arith) ∙ m.rest j l;
+    }

@@ -32,7 +32,7 @@ module _ (usable at pointers k start : ℕ) (kind : Kind) (cell old laid pointed
     (adds : AddsPointer laid pointed pointers (length cells) k start)
     (counted : u16_at new (at + 3) ≡ length cells + 1) (starts : u16_at new (at + 5) ≡ start)
     (head : DiffersOnlyWithin pointed new (at + 3) (at + 7)) where
-  has : HasCells usable at pointers (content_start old at) old cells
+  has : HasCells usable at pointers (content_start old at) kind old cells
   has = page.holds
 
   abbrev pub piece : Piece

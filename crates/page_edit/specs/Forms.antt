@@ -1,7 +1,8 @@
 -- Pages as lists of texts of cells, and what an edit of bytes leaves.
-use Rattle.std.specs.Prelude.{◌≡◌, ℕ, ◌+◌, ◌-◌, ◌*◌, ◌<◌, ◌≤◌, Bool, List, length, map, sum_by, slice_index}
+use Rattle.std.specs.Prelude.{◌≡◌, ℕ, ◌+◌, ◌-◌, ◌*◌, ◌<◌, ◌≤◌, Bool, if◌then◌else◌, List, [], length, map, sum_by, slice_index}
 use Rattle.page_spec.specs.Bytes.{u16_at}
-use Rattle.node_spec.specs.Kinds.{header_at, pointers_at}
+use Rattle.node_spec.specs.Kinds.{header_at, pointers_at, is_leaf}
+use Rattle.node_spec.specs.declared.kinds.Kind.{Kind}
 use Rattle.node_spec.specs.Layout.{Piece, HasCells, IsPage}
 use Rattle.node_spec.specs.Nodes.{Node}
 use Rattle.page_edit.specs.declared.form.Form.{Form}
@@ -35,6 +36,11 @@ pub record Holds (form : Form) (page : List ℕ) (texts : List (List ℕ)) : Typ
 abbrev pub free_in : Form → List (List ℕ) → ℕ
 free_in form texts = form.u - (form.pointers + 2 * length texts + sum_by length texts)
 
+-- a page whose header stands at a place has no freeblock and no fragment, so all its free bytes are one gap
+pub record IsPacked (at : ℕ) (page : List ℕ) : Type 0 where
+  pub no_block : u16_at page (at + 1) ≡ 0
+  pub no_fragment : slice_index page (at + 7) ≡ 0
+
 -- what no edit changes: what stands before the header, the right child, and the bytes that aren't usable
 pub record KeepsRest (form : Form) (old new : List ℕ) : Type 0 where
   pub same_length : length new ≡ length old
@@ -66,3 +72,7 @@ pub record DropsPointer (old new : List ℕ) (at pointers count k : ℕ) : Type 
   pub head : (j : ℕ) → j < at → slice_index new j ≡ slice_index old j
   pub right : (j : ℕ) → at + 8 ≤ j → j < pointers → slice_index new j ≡ slice_index old j
   pub after : (j : ℕ) → pointers + 2 * count ≤ j → slice_index new j ≡ slice_index old j
+
+-- a node without a cell; a leaf has no right child
+abbrev pub empty_node : Kind → ℕ → Node
+empty_node kind right = record { kind = kind; cells = []; right = if is_leaf kind then 0 else right }

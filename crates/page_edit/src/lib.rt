@@ -5,11 +5,11 @@
 //! small, and a page is packed when a cell is taken out. What a page of strangers has of both stays until it is packed.
 #![tactic(auto)]
 
-
+mod edit;
 mod form;
 mod gap;
 mod moving;
+mod start;
 
-
-
-
+pub use edit::{NoRoom, pack, put_cell, take_cell};
+pub use start::start_page;

@@ -2,7 +2,7 @@
 ghost use Rattle.std.specs.Prelude.{◌≡◌, ℕ, ◌+◌, ◌-◌, ◌*◌, ◌<◌, ◌≤◌, ◌⊎◌, List, length, sum_by, remove, slice_index};
 ghost use Rattle.page_spec.specs.Bytes.{u16_at, DiffersOnlyWithin};
 ghost use Rattle.node_spec.specs.Layout.{Piece, content_start, HasCells};
-ghost use Rattle.page_edit.specs.Forms.{HasTexts, Holds, DropsPointer, KeepsRest};
+ghost use Rattle.page_edit.specs.Forms.{HasTexts, Holds, DropsPointer, KeepsRest, IsPacked};
 ghost use Rattle.page_edit.specs.Packing.{Moved};
 
 use be_fields::{get_u16, put_u16};
@@ -83,6 +83,7 @@ fn pack_over(form: Form, bytes: &mut [u8], spare: &mut [u8])
     ensures shows { (texts : List (List ℕ)) → Holds form bytes.old texts → HasTexts form bytes.new texts }
     ensures content { (texts : List (List ℕ)) → Holds form bytes.old texts → content_start bytes.new form.at + sum_by length texts ≡ form.u }
     ensures count { u16_at bytes.new (form.at + 3) ≡ u16_at bytes.old (form.at + 3) }
+    ensures packed { IsPacked form.at bytes.new }
     ensures rest { KeepsRest form bytes.old bytes.new }
 {
     copy_front(spare, bytes, form.u);
@@ -97,6 +98,7 @@ fn pack_small(form: Form, bytes: &mut [u8])
     ensures shows { (texts : List (List ℕ)) → Holds form bytes.old texts → HasTexts form bytes.new texts }
     ensures content { (texts : List (List ℕ)) → Holds form bytes.old texts → content_start bytes.new form.at + sum_by length texts ≡ form.u }
     ensures count { u16_at bytes.new (form.at + 3) ≡ u16_at bytes.old (form.at + 3) }
+    ensures packed { IsPacked form.at bytes.new }
     ensures rest { KeepsRest form bytes.old bytes.new }
 {
     let mut spare = [0u8; SMALL];
@@ -108,6 +110,7 @@ fn pack_large(form: Form, bytes: &mut [u8])
     ensures shows { (texts : List (List ℕ)) → Holds form bytes.old texts → HasTexts form bytes.new texts }
     ensures content { (texts : List (List ℕ)) → Holds form bytes.old texts → content_start bytes.new form.at + sum_by length texts ≡ form.u }
     ensures count { u16_at bytes.new (form.at + 3) ≡ u16_at bytes.old (form.at + 3) }
+    ensures packed { IsPacked form.at bytes.new }
     ensures rest { KeepsRest form bytes.old bytes.new }
 {
     let mut spare = [0u8; LARGE];
@@ -120,6 +123,7 @@ pub(crate) fn pack_cells(form: Form, bytes: &mut [u8])
     ensures shows { (texts : List (List ℕ)) → Holds form bytes.old texts → HasTexts form bytes.new texts }
     ensures content { (texts : List (List ℕ)) → Holds form bytes.old texts → content_start bytes.new form.at + sum_by length texts ≡ form.u }
     ensures count { u16_at bytes.new (form.at + 3) ≡ u16_at bytes.old (form.at + 3) }
+    ensures packed { IsPacked form.at bytes.new }
     ensures rest { KeepsRest form bytes.old bytes.new }
 {
     if form.u <= SMALL {
@@ -148,6 +152,7 @@ pub(crate) fn take_out(form: Form, bytes: &mut [u8], k: usize)
     requires shown { (texts : List (List ℕ)) × HasTexts form bytes.old texts }
     requires place { k < u16_at bytes.old (form.at + 3) }
     ensures shows { (texts : List (List ℕ)) → HasTexts form bytes.old texts → HasTexts form bytes.new (remove texts k) }
+    ensures packed { IsPacked form.at bytes.new }
     ensures rest { KeepsRest form bytes.old bytes.new }
 {
     let count = usize::from(get_u16(bytes, form.at + 3));
