@@ -1,3 +1,4 @@
 pub mod Lists
 pub mod Puts
 pub mod Packs
+pub mod Shown
