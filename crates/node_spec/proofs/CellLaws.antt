@@ -1,5 +1,5 @@
 -- A cell that stands at a place of a page reads there as it does alone.
-use Rattle.std.proofs.Common.{◌≡◌, ℕ, ◌+◌, ◌-◌, ◌<◌, ◌≤◌, max, nat_le, take-append-drop, List, ◌++◌, length, drop, take, take_at, get_or, slice_range, zero-add, length-append, append-nil, replicate, ◌⊎◌, inl, inr, refl, sym, ap, ◌∙◌, arith, length-drop}
+use Rattle.std.proofs.Common.{◌≡◌, ℕ, ◌+◌, ◌-◌, ◌<◌, ◌≤◌, max, nat_le, take-append-drop, List, ◌++◌, length, drop, take, take_at, get_or, slice_range, zero-add, length-append, append-nil, replicate, inl, inr, refl, sym, ap, ◌∙◌, arith, length-drop}
 use Rattle.std.specs.List.{prefix_len}
 use Rattle.std.proofs.lemmas.List.{drop-append-le, take-append-le, get_or-drop, get_or-take, length-take, length-take-le}
 use Rattle.std.proofs.lemmas.List.Folds.{length-prefix_len}
@@ -261,7 +261,7 @@ padded_short kind usable text plain short =
     let s = short_leaf kind usable text plain short in
     let low = local_least (is_table kind) usable (payload_in kind body) in
     let range : slice_range (text ++ more) (left + keys_size kind body) (left + keys_size kind body + local_size (is_table kind) usable (payload_in kind body))
-        ≡ slice_range text (left + keys_size kind body) (left + keys_size kind body + local_size (is_table kind) usable (payload_in kind body)) =
+    ≡ slice_range text (left + keys_size kind body) (left + keys_size kind body + local_size (is_table kind) usable (payload_in kind body)) =
     slice_front text more _ _ (omega arith) (omega arith) in
     let size : max 4 (length (text ++ more)) ≡ max 4 (length text) = omega (arith, length-append text more, length-replicate {A = ℕ} (4 - length text) 0) in
     rw (behind, k.0, k.1, k.2, s.0, s.1, range, size) refl

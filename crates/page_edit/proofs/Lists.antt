@@ -32,7 +32,6 @@ each-remove Q xs k d place below above i h = elim (cases_lt i k) [
   | inr ge ↦ rw (get_or-remove_above xs k d i ge place) (above i ge h)
 ]
 
-
 pub texts_of-insert : (cells : List Piece) (k : ℕ) (cell : Piece) → texts_of (insert cells k cell) ≡ insert (texts_of cells) k cell.bytes
 texts_of-insert cells k cell =
     map-append (λ (c : Piece). c.bytes) (take k cells) (cell ∷ drop k cells)
@@ -42,7 +41,6 @@ pub texts_of-remove : (cells : List Piece) (k : ℕ) → texts_of (remove cells 
 texts_of-remove cells k =
     map-append (λ (c : Piece). c.bytes) (take k cells) (drop (suc k) cells)
     ∙ ap₂ (λ (a b : List (List ℕ)). a ++ b) (sym (take-map (λ (c : Piece). c.bytes) k cells)) (sym (drop-map (λ (c : Piece). c.bytes) (suc k) cells))
-
 
 pub length-texts_of : (cells : List Piece) → length (texts_of cells) ≡ length cells
 length-texts_of [] = refl

@@ -228,7 +228,7 @@ dropped usable at pointers content k kind old new cells h place drops counted =
       room = omega (arith, len, h.room);
       kinds = λ i l.
           each-remove (λ n p. IsCell kind usable p.bytes) cells k nowhere place
-      (λ n o. h.kinds n (omega arith)) (λ n o q. h.kinds (n + 1) q) i (omega (arith, len));
+          (λ n o. h.kinds n (omega arith)) (λ n o q. h.kinds (n + 1) q) i (omega (arith, len));
       fits = omega (arith, sum_by-remove size_of cells k nowhere place, h.fits);
       stand = λ i d l.
           each-remove (λ n p. Stands new content usable p) cells k d place

@@ -142,7 +142,7 @@ module _ (usable at pointers k start : ℕ) (kind : Kind) (cell old laid pointed
       room = omega (arith, content, len);
       kinds = λ i h.
           each-insert (λ n p. IsCell kind usable p.bytes) cells k piece nowhere place
-      (λ n l. has.kinds n (omega arith)) whole (λ n l m. has.kinds n m) i (omega (arith, len));
+          (λ n l. has.kinds n (omega arith)) whole (λ n l m. has.kinds n m) i (omega (arith, len));
       fits = omega (arith, content, sizes, has.fits);
       stand = subst (λ n. All (Stands new n usable) (insert cells k piece)) (sym content) all_stand;
       once = λ j. omega (arith, apart j);

@@ -7,13 +7,12 @@ ghost use Rattle.node_spec.specs.Layout.{content_start};
 ghost use Rattle.node_spec.specs.Nodes.{Node, node_of, free_of, with_cell, without_cell};
 ghost use Rattle.page_edit.specs.Forms.{HasTexts, KeepsRest, KeepsOutside, IsPacked, free_in};
 
-use be_fields::get_u16;
-use page_form::{cell_len, content_start};
-use thiserror::Error;
-
 use crate::form::{Form, form_of};
 use crate::gap::put_in_gap;
 use crate::moving::{pack_cells, take_out};
+use be_fields::get_u16;
+use page_form::{cell_len, content_start};
+use thiserror::Error;
 
 /// A cell takes at least so many bytes.
 const LEAST_CELL: usize = 4;
@@ -32,7 +31,13 @@ pub struct NoRoom {
 ///
 /// The text of the cell is just one cell of the page's kind; what a short one lacks to 4 bytes is filled up. Where the free
 /// bytes suffice but not the gap, the page is packed. A page that refuses a cell is unchanged.
-pub fn put_cell(bytes: &mut [u8], u: usize, first: bool, k: usize, cell: &[u8]) -> Result<(), NoRoom>
+pub fn put_cell(
+    bytes: &mut [u8],
+    u: usize,
+    first: bool,
+    k: usize,
+    cell: &[u8],
+) -> Result<(), NoRoom>
     requires shown { (node : Node) × (node_of u first bytes.old ≡ Some node) × (k ≤ length node.cells) × IsOneCell node.kind u cell.now }
     ensures put { OnOk result ((node : Node) → node_of u first bytes.old ≡ Some node
         → node_of u first bytes.new ≡ Some (with_cell node k (cell_in node.kind u cell.now))) }

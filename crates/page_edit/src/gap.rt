@@ -5,10 +5,9 @@ ghost use Rattle.node_spec.specs.Cells.{IsCell};
 ghost use Rattle.node_spec.specs.Layout.{content_start};
 ghost use Rattle.page_edit.specs.Forms.{HasTexts, AddsPointer, KeepsRest};
 
+use crate::form::Form;
 use be_fields::{get_u16, put_u16};
 use page_form::content_start;
-
-use crate::form::Form;
 
 // Makes room for a pointer, and writes it.
 fn add_pointer(bytes: &mut [u8], pointers: usize, count: usize, k: usize, start: u16)

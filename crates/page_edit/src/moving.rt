@@ -5,10 +5,9 @@ ghost use Rattle.node_spec.specs.Layout.{Piece, content_start, HasCells};
 ghost use Rattle.page_edit.specs.Forms.{HasTexts, Holds, DropsPointer, KeepsRest, IsPacked};
 ghost use Rattle.page_edit.specs.Packing.{Moved};
 
+use crate::form::Form;
 use be_fields::{get_u16, put_u16};
 use page_form::cell_len;
-
-use crate::form::Form;
 
 /// Pages of at most so many usable bytes are packed over a small copy.
 const SMALL: usize = 4096;
@@ -45,7 +44,14 @@ fn move_cells(form: Form, from: &[u8], bytes: &mut [u8]) -> usize
         let Some(len) = cell_len(from, form.u, form.kind, start) else {
             unreachable!()
         };
-        move_cell(from, bytes, form.pointers + 2 * i, usize::from(start), len, end);
+        move_cell(
+            from,
+            bytes,
+            form.pointers + 2 * i,
+            usize::from(start),
+            len,
+            end,
+        );
         end -= len;
     }
     end

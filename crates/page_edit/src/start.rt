@@ -5,10 +5,9 @@ ghost use Rattle.node_spec.specs.Kinds.{header_at, is_leaf};
 ghost use Rattle.node_spec.specs.Nodes.{node_of};
 ghost use Rattle.page_edit.specs.Forms.{KeepsOutside, IsPacked, empty_node};
 
+use crate::moving::set_packed;
 use be_fields::{put_u16, put_u32};
 use page_form::{Kind, flag_of, header_at, is_leaf};
-
-use crate::moving::set_packed;
 
 /// Makes a page of a kind without a cell, whatever stood there. A leaf has no right child, and `right` is ignored.
 pub fn start_page(bytes: &mut [u8], u: usize, first: bool, kind: Kind, right: u32)

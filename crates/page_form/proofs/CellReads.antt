@@ -1,19 +1,19 @@
 -- A cell read from the bytes of its page.
-use Rattle.std.proofs.Common.{◌≡◌, ℕ, ◌+◌, ◌-◌, ◌*◌, ◌<◌, ◌≤◌, max, true, false, Bool, if◌then◌else◌, Option, Some, List, ◌++◌, length, drop, take, take_at, get_or, slice_range, refl, sym, ap, subst, ◌∙◌, arith, length-drop, drop-drop}
+use Rattle.std.proofs.Common.{◌≡◌, ℕ, ◌+◌, ◌-◌, ◌<◌, ◌≤◌, max, true, false, Bool, if◌then◌else◌, List, length, drop, take, take_at, get_or, slice_range, refl, sym, ap, subst, ◌∙◌, arith, length-drop, drop-drop}
 use Rattle.std.specs.Int.{cast_signed, w64}
-use Rattle.std.proofs.lemmas.List.{drop-take, length-take-le, get_or-map, length-map}
-use Rattle.page_spec.specs.Bytes.{u16_at, u32_at}
+use Rattle.std.proofs.lemmas.List.{drop-take, take-take, length-take-le, get_or-map, length-map}
+use Rattle.page_spec.specs.Bytes.{u32_at}
 use Rattle.node_spec.specs.declared.kinds.Kind.{Kind}
-use Rattle.node_spec.specs.Kinds.{is_leaf, is_table, header_at, pointers_at}
+use Rattle.node_spec.specs.Kinds.{is_leaf, is_table}
 use Rattle.node_spec.specs.Cells.{NodeCell, IsCell, keys_size, payload_in, rowid_in, body_size, left_size, cell_size, stored_size, local_size, spills, payload_at, cell_in}
-use Rattle.node_spec.specs.Layout.{Piece, nowhere, Stands}
+use Rattle.node_spec.specs.Layout.{Piece, nowhere}
 use Rattle.node_spec.specs.Faults.{rest_at}
-use Rattle.node_spec.specs.Nodes.{Node, cell_at, no_cell, node_of}
-use Rattle.node_spec.proofs.CellLaws.{split_at, split_in, ReadsCell, reads_cell}
+use Rattle.node_spec.specs.Nodes.{Node, cell_at, no_cell}
+use Rattle.node_spec.proofs.CellLaws.{split_at, reads_cell}
 use Rattle.node_spec.proofs.NodeLaws.{node_shows}
 use Rattle.page_form.specs.declared.page.Page.{Page}
 use Rattle.page_form.specs.declared.cells.Cell.{Cell}
-use Rattle.page_form.specs.Reading.{Tells, IsReadPage, TellsCell, CellStands}
+use Rattle.page_form.specs.Reading.{IsReadPage, TellsCell, CellStands}
 
 -- what stands behind a left child
 rest_behind : (page : List ℕ) (start left usable : ℕ) → start + left ≤ usable → drop left (rest_at usable page start) ≡ rest_at usable page (start + left)
@@ -72,7 +72,7 @@ cell_here usable bytes page node k read less =
         same = λ j l. ap (λ n. get_or bytes (n + j) 0) start ∙ p.same j l;
       };
       is = ap (λ (cells : List NodeCell). get_or cells k no_cell) s.cells_are
-      ∙ get_or-map (λ (p : Piece). cell_in node.kind usable p.bytes) s.cells k nowhere no_cell here ∙ ap (λ q. cell_in q usable piece.bytes) (sym kind);
+          ∙ get_or-map (λ (p : Piece). cell_in node.kind usable p.bytes) s.cells k nowhere no_cell here ∙ ap (λ q. cell_in q usable piece.bytes) (sym kind);
     }
 
 -- a cell whose varints end past the usable bytes
@@ -120,6 +120,10 @@ pub stored_parts : (table : Bool) (usable payload stored : ℕ) → stored ≡ s
     → (local_size table usable payload ≤ stored) × (spills table usable payload ≡ true → local_size table usable payload + 4 ≤ stored)
 unfolding stored_size
 stored_parts table usable payload stored is = (omega arith, λ spilled. let e = rw spilled at is in omega arith)
+
+local_part : (table : Bool) (usable payload : ℕ) → local_size table usable payload ≤ stored_size table usable payload
+unfolding stored_size
+local_part table usable payload = omega arith
 
 if_both : (b : Bool) (x y : ℕ) → (b ≡ true → x ≡ y) → (if b then x else 0) ≡ (if b then y else 0)
 if_both true x y e = e refl
@@ -186,6 +190,7 @@ cell_tells kind usable bytes text start left keys local payload rowid stored tol
     let local_here : local_size (is_table kind) usable (payload_in kind body) ≡ local = ap (local_size (is_table kind) usable) (sym p) ∙ sym local_is in
     record {
       inside = omega arith;
+      long = long;
       whole = subst (λ xs. IsCell kind usable xs) (sym range) stands.whole;
       spells = ap (cell_in kind usable) range;
       size = omega (arith, len, some);
@@ -194,7 +199,56 @@ cell_tells kind usable bytes text start left keys local payload rowid stored tol
       payload = payload_told ∙ p;
       local = local_told ∙ sym (rw (at, local_here) (length_cut text (left + keys) local (omega (arith, parts.0))));
       overflow = overflow_told
-      ∙ if_both (spills (is_table kind) usable payload) (u32_at bytes (start + left + keys + local)) (u32_at text (left + keys + local))
-      (λ spilled. number_here bytes text start (left + keys + local) (start + left + keys + local) same (omega (arith, parts.1 spilled)) (omega arith))
-      ∙ rw (at, local_here, p) refl;
+          ∙ if_both (spills (is_table kind) usable payload) (u32_at bytes (start + left + keys + local)) (u32_at text (left + keys + local))
+          (λ spilled. number_here bytes text start (left + keys + local) (start + left + keys + local) same (omega (arith, parts.1 spilled)) (omega arith))
+          ∙ rw (at, local_here, p) refl;
+    }
+
+-- The stored part of a payload, from a cell that was told.
+pub record LocalHere (kind : Kind) (bytes : List ℕ) (told : Cell) (cell : NodeCell) (left : ℕ) : Type 0 where
+  pub left_fits : told.start + left ≤ told.start + told.len
+  pub ends : told.start + told.len ≤ length bytes
+  pub keys_fit : keys_size kind (slice_range bytes (told.start + left) (told.start + told.len)) ≤ length (slice_range bytes (told.start + left) (told.start + told.len))
+  pub local_fits : (keys : ℕ) → keys ≡ keys_size kind (slice_range bytes (told.start + left) (told.start + told.len)) → left + keys + told.local ≤ told.len
+  pub local_is : (keys : ℕ) → keys ≡ keys_size kind (slice_range bytes (told.start + left) (told.start + told.len))
+      → slice_range bytes (told.start + left + keys) (told.start + left + keys + told.local) ≡ cell.local
+
+-- a cut of a cut
+cut_again : (bytes : List ℕ) (start len at n : ℕ) → at + n ≤ len → slice_range (slice_range bytes start (start + len)) at (at + n) ≡ slice_range bytes (start + at) (start + at + n)
+cut_again bytes start len at n room =
+    let a : start + len - start ≡ at + (len - at) = omega arith in
+    let b : at + n - at ≡ n = omega arith in
+    let c : start + at + n - (start + at) ≡ n = omega arith in
+    let cut = drop at (drop start bytes) in
+    rw (a, b, c) (ap (take n) (drop-take at (len - at) (drop start bytes)) ∙ take-take n (len - at) cut (omega arith)
+    ∙ ap (take n) (drop-drop at start bytes))
+
+pub local_here : (usable : ℕ) (kind : Kind) (bytes : List ℕ) (told : Cell) (cell : NodeCell) (left : ℕ) → TellsCell usable kind bytes told cell → left ≡ left_size kind
+    → LocalHere kind bytes told cell left
+unfolding cell_size body_size cell_in payload_at
+local_here usable kind bytes told cell left t is =
+    let text = slice_range bytes told.start (told.start + told.len) in
+    let n : told.start + told.len - told.start ≡ told.len = omega arith in
+    let len : length text ≡ told.len = rw n (length-take-le told.len (drop told.start bytes) (omega (arith, t.inside, t.long, length-drop told.start bytes))) in
+    let whole = t.whole in
+    let body = drop (left_size kind) text in
+    let fits : left ≤ told.len = omega arith in
+    let rest : slice_range bytes (told.start + left) (told.start + told.len) ≡ body =
+    sym (rest_behind bytes told.start left (told.start + told.len) (omega arith)) ∙ ap (λ k. drop k text) is in
+    let low = local_part (is_table kind) usable (payload_in kind body) in
+    let keys_body : left_size kind + keys_size kind body + local_size (is_table kind) usable (payload_in kind body) ≤ length text = omega arith in
+    let local_len : length cell.local ≡ local_size (is_table kind) usable (payload_in kind body) =
+    ap (λ (c : NodeCell). length c.local) (sym t.spells)
+    ∙ length_cut text (left_size kind + keys_size kind body) (local_size (is_table kind) usable (payload_in kind body)) keys_body in
+    let local : told.local ≡ local_size (is_table kind) usable (payload_in kind body) = t.local ∙ local_len in
+    record {
+      left_fits = omega arith;
+      ends = omega (arith, t.inside, t.long);
+      keys_fit = rw rest (omega (arith, length-drop (left_size kind) text));
+      local_fits = λ keys k. let k' : keys ≡ keys_size kind body = k ∙ ap (keys_size kind) rest in omega arith;
+      local_is = λ keys k.
+          let k' : keys ≡ keys_size kind body = k ∙ ap (keys_size kind) rest in
+          let at : told.start + left + keys ≡ told.start + (left_size kind + keys_size kind body) = omega arith in
+          rw (at, local) (sym (cut_again bytes told.start told.len (left_size kind + keys_size kind body) (local_size (is_table kind) usable (payload_in kind body)) (omega arith))
+          ∙ ap (λ (c : NodeCell). c.local) t.spells);
     }

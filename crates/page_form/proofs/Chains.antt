@@ -1,5 +1,5 @@
 -- A walk along the chain of freeblocks.
-use Rattle.std.proofs.Common.{◌≡◌, ℕ, zero, suc, ◌+◌, ◌-◌, ◌*◌, ◌<◌, ◌≤◌, ◌==◌, min, true, false, Option, None, Some, List, [], ◌∷◌, ◌++◌, length, get_or, take, drop, refl, sym, ap, subst, ◌∙◌, inl, inr, arith, ◌⊎◌, length-drop, append_assoc, append-nil}
+use Rattle.std.proofs.Common.{◌≡◌, ℕ, zero, suc, ◌+◌, ◌-◌, ◌*◌, ◌<◌, ◌≤◌, ◌==◌, min, true, false, None, Some, List, [], ◌∷◌, ◌++◌, length, get_or, drop, refl, sym, ap, subst, ◌∙◌, arith, ◌⊎◌, length-drop, append_assoc, append-nil}
 use Rattle.std.proofs.lemmas.List.{length-take-le}
 use Rattle.std.proofs.lemmas.Bool.Decides.{nat_tests}
 use Rattle.page_spec.specs.Bytes.{u16_at}
@@ -50,8 +50,7 @@ pub walk_ends : {usable content : ℕ} {page : List ℕ} {first before at sum : 
     × (sum ≤ 65536 * usable) × ((cells : List Piece) → AreMarks old cells [] → AreMarks marks cells (blocks_in (suc usable) page first))
 walk_ends {usable} {content} {page} {first} {before} {at} {sum} {old} {marks} w is =
     let all : blocks_in (suc usable) page first ≡ w.walked =
-    w.blocks ∙ ap (λ xs. w.walked ++ xs) (no_blocks w.more page at is) ∙ append-nil w.walked in
-    (
+    w.blocks ∙ ap (λ xs. w.walked ++ xs) (no_blocks w.more page at is) ∙ append-nil w.walked in (
       w.fault ∙ no_chain w.more usable content page before at is,
       w.sum_is ∙ ap taken (sym all),
       omega (arith, w.sum_most, w.low),
@@ -108,9 +107,9 @@ walk_goes_on {usable} {content} {page} {first} {before} {at} {sum} {old} {marks}
       enough = omega (arith, w.enough, rises);
       low = omega arith;
       fault = w.fault ∙ rw next_is (subst (λ n. chain_fault n usable content page before at ≡ chain_fault (w.more - 1) usable content page at (u16_at page at)) (sym more)
-      (step_fault (w.more - 1) usable content page before at other is));
+          (step_fault (w.more - 1) usable content page before at other is));
       blocks = w.blocks ∙ rw next_is (ap (λ xs. w.walked ++ xs) (subst (λ n. blocks_in n page at ≡ block ∷ blocks_in (w.more - 1) page (u16_at page at)) (sym more)
-      (step_blocks (w.more - 1) page at other)) ∙ sym (append_assoc w.walked (block ∷ []) (blocks_in (w.more - 1) page (u16_at page at))));
+          (step_blocks (w.more - 1) page at other)) ∙ sym (append_assoc w.walked (block ∷ []) (blocks_in (w.more - 1) page (u16_at page at))));
       sum_is = omega (arith, w.sum_is, taken_more w.walked block, shape.1);
       sum_most = omega (arith, w.sum_most, rises);
       marks_are = λ cells are k.

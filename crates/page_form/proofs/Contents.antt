@@ -1,8 +1,8 @@
 -- The checks of a content in their order.
-use Rattle.std.proofs.Common.{◌≡◌, ℕ, suc, ◌+◌, ◌*◌, ◌≤◌, ◌==◌, ◌&&◌, nat_le, Bool, true, false, Option, None, Some, List, length, get_or, refl, sym, ap, ◌∙◌, arith}
+use Rattle.std.proofs.Common.{◌≡◌, ℕ, suc, ◌+◌, ◌==◌, ◌&&◌, nat_le, true, false, None, Some, List, get_or, refl, sym, ap, ◌∙◌, arith}
 use Rattle.page_spec.specs.Bytes.{u16_at}
 use Rattle.node_spec.specs.declared.kinds.Kind.{Kind}
-use Rattle.node_spec.specs.Layout.{Piece, taken, content_start}
+use Rattle.node_spec.specs.Layout.{taken, content_start}
 use Rattle.node_spec.specs.Faults.{first_fault, cell_fault, cells_in, blocks_in, chain_fault, byte_fault, content_fault, has_fragments}
 
 module _ (usable at pointers : ℕ) (kind : Kind) (page : List ℕ) (count content start : ℕ)

@@ -1,16 +1,14 @@
 -- Marks with one piece more.
-use Rattle.std.proofs.Common.{◌≡◌, ℕ, zero, suc, ◌+◌, ◌-◌, ◌*◌, ◌<◌, ◌≤◌, ◌==◌, min, true, false, if◌then◌else◌, Option, None, Some, List, [], ◌∷◌, ◌++◌, length, get_or, take, drop, refl, sym, ap, subst, ◌∙◌, inl, inr, arith, ◌⊎◌, length-drop, append_assoc, append-nil, add-one}
+use Rattle.std.proofs.Common.{◌≡◌, ℕ, ◌+◌, ◌-◌, ◌*◌, ◌<◌, ◌≤◌, min, List, [], ◌∷◌, ◌++◌, length, get_or, drop, refl, sym, ◌∙◌, inl, inr, arith, ◌⊎◌, length-drop, add-one}
 use Rattle.std.proofs.lemmas.List.{length-take-le}
 use Rattle.std.proofs.lemmas.List.Sums.{sum_by-append, sum_by-cons}
 use Rattle.std.proofs.lemmas.Bool.{cases_lt}
-use Rattle.std.proofs.lemmas.Bool.Decides.{nat_tests}
 use Rattle.page_spec.specs.Bytes.{u16_at}
 use Rattle.node_spec.specs.declared.kinds.Kind.{Kind}
 use Rattle.node_spec.specs.Cells.{cell_size}
 use Rattle.node_spec.specs.Layout.{Piece, hit, cover, size_of, taken}
-use Rattle.node_spec.specs.Faults.{rest_at, cell_piece, cells_in, block_piece, blocks_in, is_block, chain_fault}
+use Rattle.node_spec.specs.Faults.{rest_at, cell_piece, cells_in}
 use Rattle.node_spec.proofs.PieceLaws.{hit_none, hit_here}
-use Rattle.node_spec.proofs.Decode.{block_fits}
 use Rattle.page_form.specs.Marks.{AreMarks}
 
 -- one piece more at the end of a list
@@ -62,9 +60,9 @@ cells_more usable kind page pointers i start place len old new long start_is pla
     record {
       sum = rw all (omega (arith, taken_more front piece, is.1, len_is));
       marks = λ marks k. rw all (
-        let m = marked old new piece place len (is.0 ∙ sym place_is) (is.1 ∙ sym len_is) inside outside k (cover front k) (omega (arith, marks k)) in
-        omega (arith, m, cover_more front piece k)
-      );
+          let m = marked old new piece place len (is.0 ∙ sym place_is) (is.1 ∙ sym len_is) inside outside k (cover front k) (omega (arith, marks k)) in
+          omega (arith, m, cover_more front piece k)
+          );
     }
 
 pub cells_none : (usable : ℕ) (kind : Kind) (page : List ℕ) (pointers : ℕ) (marks : List ℕ) → AreMarks marks [] []

@@ -1,12 +1,11 @@
 -- Pages read: refused with their first fault, or told as the node that they show.
-use Rattle.std.proofs.Common.{◌≡◌, ℕ, ◌+◌, ◌-◌, ◌*◌, ◌<◌, ◌≤◌, ◌&&◌, suc, nat_le, Bool, true, false, Option, None, Some, List, length, get_or, vec_len, refl, sym, ap, subst, ◌∙◌, arith}
-use Rattle.std.proofs.lemmas.List.{length-map}
+use Rattle.std.proofs.Common.{◌≡◌, ℕ, ◌+◌, ◌-◌, ◌*◌, ◌<◌, ◌≤◌, suc, nat_le, Bool, None, Some, List, length, get_or, vec_len, refl, sym, ap, ◌∙◌, arith}
 use Rattle.std.proofs.lemmas.Bool.Decides.{nat_tests}
 use Rattle.page_spec.specs.Bytes.{u16_at}
 use Rattle.node_spec.specs.declared.kinds.Kind.{Kind}
-use Rattle.node_spec.specs.Kinds.{flag_of, kind_of, header_at, pointers_at}
-use Rattle.node_spec.specs.Layout.{taken, content_start, IsPageText}
-use Rattle.node_spec.specs.Faults.{unless, or_else, cells_in, blocks_in, page_fault, front_fault, content_fault, parts_fault}
+use Rattle.node_spec.specs.Kinds.{kind_of, header_at, pointers_at}
+use Rattle.node_spec.specs.Layout.{taken, IsPageText}
+use Rattle.node_spec.specs.Faults.{cells_in, blocks_in, page_fault, front_fault, content_fault, parts_fault}
 use Rattle.node_spec.specs.Nodes.{Node, Shows, node_of, node_with, right_in, cell_bytes, free_of}
 use Rattle.node_spec.proofs.FaultLaws.{unless_none, or_none}
 use Rattle.node_spec.proofs.Decode.{flag_kind, no_fault_page, length-cells_in}
@@ -78,7 +77,7 @@ good_page usable first page at pointers kind sum least most long is some place n
       cells = cells;
       blocks = blocks_in (suc usable) page (u16_at page (header_at first + 1));
       is_page = no_fault_page usable (header_at first) (pointers_at first kind) kind page long least most (header_fits first kind)
-      (flag_kind (get_or page (header_at first) 0) kind some_here) none_here;
+          (flag_kind (get_or page (header_at first) 0) kind some_here) none_here;
       cells_are = refl;
       right_is = refl;
     } in

@@ -1,6 +1,5 @@
 -- What is told of a page and of a cell, by the node that the page shows.
 use Rattle.std.specs.Prelude.{◌≡◌, ℕ, ◌+◌, ◌*◌, ◌<◌, ◌≤◌, Bool, List, length, slice_index, slice_range, Some, vec_len}
-use Rattle.std.specs.List.{slice_index_or}
 use Rattle.page_spec.specs.Bytes.{u16_at}
 use Rattle.node_spec.specs.declared.kinds.Kind.{Kind}
 use Rattle.node_spec.specs.Kinds.{pointers_at}
@@ -45,6 +44,7 @@ pub record CellStands (usable : ℕ) (kind : Kind) (bytes text : List ℕ) (star
 -- What is told of a cell: each field, and where its text stands, from which it can be copied.
 pub record TellsCell (usable : ℕ) (kind : Kind) (bytes : List ℕ) (told : Cell) (cell : NodeCell) : Type 0 where
   pub inside : told.start + told.len ≤ usable
+  pub long : usable ≤ length bytes
   pub whole : IsCell kind usable (slice_range bytes told.start (told.start + told.len))
   pub spells : cell_in kind usable (slice_range bytes told.start (told.start + told.len)) ≡ cell
   pub size : told.len ≡ cell.size

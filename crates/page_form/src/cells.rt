@@ -2,17 +2,16 @@
 ghost use Rattle.std.specs.Prelude.{◌≡◌, ℕ, List, ◌+◌, ◌<◌, ◌≤◌, length, MatchOption, if◌then◌else◌, true};
 ghost use Rattle.page_spec.specs.Bytes.{u32_at};
 ghost use Rattle.node_spec.specs.Kinds.{is_leaf};
-ghost use Rattle.node_spec.specs.Cells.{cell_in, keys_size, payload_in, rowid_in, cell_size};
+ghost use Rattle.node_spec.specs.Cells.{NodeCell, cell_in, keys_size, payload_in, rowid_in, cell_size};
 ghost use Rattle.node_spec.specs.Faults.{rest_at};
 ghost use Rattle.node_spec.specs.Nodes.{Node};
 ghost use Rattle.page_form.specs.Reading.{IsReadPage, TellsCell, IsCellOf, CellStands};
 
-use be_fields::{get_u32, get_varint};
-use node_spec::Kind;
-
 use crate::kinds::{is_leaf, is_table, left_size};
 use crate::page::Page;
 use crate::sizes::{local_size, spills, stored_size};
+use be_fields::{get_u32, get_varint};
+use node_spec::Kind;
 
 /// A cell takes at least so many bytes, since a freeblock does.
 const LEAST_CELL: usize = 4;
@@ -34,6 +33,22 @@ pub struct Cell {
     pub local: usize,
     /// The page number of the first overflow page.
     pub overflow: u32,
+}
+
+impl Cell {
+    /// The bytes of the payload that the cell stores, in the page of this kind that it was read from.
+    pub fn local_bytes<'a>(&self, kind: Kind, bytes: &'a [u8]) -> &'a [u8]
+        requires told { (usable : ℕ) × ((cell : NodeCell) × TellsCell usable kind bytes.now self.now cell) }
+        ensures { (usable : ℕ) (cell : NodeCell) → TellsCell usable kind bytes.now self.now cell → result.now ≡ cell.local }
+    {
+        let behind = self.start + left_size(kind);
+        let end = self.start + self.len;
+        let Some(keys) = read_keys(&bytes[behind..end], kind) else {
+            unreachable!()
+        };
+        let at = behind + keys.size;
+        &bytes[at..at + self.local]
+    }
 }
 
 // The varints of a cell, and how many bytes they take.
@@ -98,7 +113,11 @@ fn left_child(bytes: &[u8], kind: Kind, start: usize) -> u32
     requires { start + 4 ≤ length bytes.now }
     ensures { result ≡ (if is_leaf kind then 0 else u32_at bytes.now start) }
 {
-    if is_leaf(kind) { 0 } else { get_u32(bytes, start) }
+    if is_leaf(kind) {
+        0
+    } else {
+        get_u32(bytes, start)
+    }
 }
 
 // The number of an overflow page at a place, where the payload is too large.

@@ -7,11 +7,10 @@ ghost use Rattle.node_spec.specs.Layout.{Piece, taken};
 ghost use Rattle.node_spec.specs.Faults.{first_fault, cell_fault, cells_in, blocks_in, chain_fault, byte_fault, is_block};
 ghost use Rattle.page_form.specs.Marks.{AreMarks, IsCheckedContent};
 
-use be_fields::get_u16;
-use node_spec::Kind;
-
 use crate::cells::cell_len;
 use crate::front::content_start;
+use be_fields::get_u16;
+use node_spec::Kind;
 
 /// Pages of at most so many usable bytes are checked with a small array of marks.
 const SMALL: usize = 4096;
@@ -32,7 +31,14 @@ fn mark(marks: &mut [u8], start: usize, len: usize)
 }
 
 // Marks all cells, and tells how many bytes they have together, or the start of the first one that isn't whole.
-fn mark_cells(bytes: &[u8], u: usize, kind: Kind, pointers: usize, count: usize, marks: &mut [u8]) -> Result<usize, usize>
+fn mark_cells(
+    bytes: &[u8],
+    u: usize,
+    kind: Kind,
+    pointers: usize,
+    count: usize,
+    marks: &mut [u8],
+) -> Result<usize, usize>
     requires usable { (480 ≤ u) × (u ≤ 65536) × (u ≤ length bytes.now) }
     requires room { pointers + 2 * count ≤ u }
     requires marks { (u ≤ length marks.old) × AreMarks marks.old [] [] }
@@ -67,7 +73,13 @@ fn is_block(bytes: &[u8], u: usize, content: usize, before: usize, at: usize) ->
 }
 
 // Marks all freeblocks of the chain from a place on, and tells how many bytes they have together, or the first place that breaks the chain.
-fn mark_blocks(bytes: &[u8], u: usize, content: usize, first: u16, marks: &mut [u8]) -> Result<usize, usize>
+fn mark_blocks(
+    bytes: &[u8],
+    u: usize,
+    content: usize,
+    first: u16,
+    marks: &mut [u8],
+) -> Result<usize, usize>
     requires usable { (u ≤ 65536) × (u ≤ length bytes.now) }
     requires marks { u ≤ length marks.old }
     ensures { MatchResult result
@@ -107,7 +119,13 @@ fn shared_byte(marks: &[u8], u: usize) -> Option<usize>
 /// Checks the content of a page whose header stands at `at` and its pointers at `pointers`.
 ///
 /// Ok tells how many bytes its cells have together, Err the first field of the content that breaks the text of a page.
-pub(crate) fn check_content(bytes: &[u8], u: usize, at: usize, pointers: usize, kind: Kind) -> Result<usize, usize>
+pub(crate) fn check_content(
+    bytes: &[u8],
+    u: usize,
+    at: usize,
+    pointers: usize,
+    kind: Kind,
+) -> Result<usize, usize>
     requires usable { (480 ≤ u) × (u ≤ 65536) × (u ≤ length bytes.now) }
     requires room { (at + 8 ≤ pointers) × (pointers + 2 * u16_at bytes.now (at + 3) ≤ u) }
     ensures { IsCheckedContent u at pointers kind bytes.now result }
@@ -120,7 +138,13 @@ pub(crate) fn check_content(bytes: &[u8], u: usize, at: usize, pointers: usize, 
 }
 
 // The same with marks for a small page, and for any page: a function pays at its entry for all the marks that it may need.
-fn check_small(bytes: &[u8], u: usize, at: usize, pointers: usize, kind: Kind) -> Result<usize, usize>
+fn check_small(
+    bytes: &[u8],
+    u: usize,
+    at: usize,
+    pointers: usize,
+    kind: Kind,
+) -> Result<usize, usize>
     requires usable { (480 ≤ u) × (u ≤ 4096) × (u ≤ length bytes.now) }
     requires room { (at + 8 ≤ pointers) × (pointers + 2 * u16_at bytes.now (at + 3) ≤ u) }
     ensures { IsCheckedContent u at pointers kind bytes.now result }
@@ -129,7 +153,13 @@ fn check_small(bytes: &[u8], u: usize, at: usize, pointers: usize, kind: Kind) -
     check_marked(bytes, u, at, pointers, kind, &mut marks)
 }
 
-fn check_large(bytes: &[u8], u: usize, at: usize, pointers: usize, kind: Kind) -> Result<usize, usize>
+fn check_large(
+    bytes: &[u8],
+    u: usize,
+    at: usize,
+    pointers: usize,
+    kind: Kind,
+) -> Result<usize, usize>
     requires usable { (480 ≤ u) × (u ≤ 65536) × (u ≤ length bytes.now) }
     requires room { (at + 8 ≤ pointers) × (pointers + 2 * u16_at bytes.now (at + 3) ≤ u) }
     ensures { IsCheckedContent u at pointers kind bytes.now result }
@@ -146,7 +176,14 @@ fn wipe(marks: &mut [u8])
 }
 
 // Checks the content of a page with these marks, which are wiped first.
-fn check_marked(bytes: &[u8], u: usize, at: usize, pointers: usize, kind: Kind, marks: &mut [u8]) -> Result<usize, usize>
+fn check_marked(
+    bytes: &[u8],
+    u: usize,
+    at: usize,
+    pointers: usize,
+    kind: Kind,
+    marks: &mut [u8],
+) -> Result<usize, usize>
     requires usable { (480 ≤ u) × (u ≤ 65536) × (u ≤ length bytes.now) }
     requires room { (at + 8 ≤ pointers) × (pointers + 2 * u16_at bytes.now (at + 3) ≤ u) }
     requires marks { u ≤ length marks.old }

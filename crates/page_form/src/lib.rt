@@ -10,7 +10,6 @@ mod front;
 mod kinds;
 mod page;
 mod read;
-
 mod sizes;
 
 pub use cells::{Cell, cell_len, read_cell};
@@ -19,4 +18,3 @@ pub use kinds::{flag_of, header_at, header_size, is_leaf, kind_of, pointers_at};
 pub use node_spec::Kind;
 pub use page::{Page, PageFault};
 pub use read::read_page;
-

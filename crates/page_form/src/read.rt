@@ -6,15 +6,13 @@ ghost use Rattle.node_spec.specs.Nodes.{Node, right_in};
 ghost use Rattle.page_form.specs.Marks.{IsChecked};
 ghost use Rattle.page_form.specs.Reading.{Tells, IsFault};
 
-use std::alloc::{AllocError, Global};
-
-use be_fields::{get_u16, get_u32};
-use node_spec::Kind;
-
 use crate::content::check_content;
 use crate::front::bad_front;
 use crate::kinds::{header_at, is_leaf, kind_of, pointers_at};
 use crate::page::{Page, PageFault};
+use be_fields::{get_u16, get_u32};
+use node_spec::Kind;
+use std::alloc::{AllocError, Global};
 
 /// Reads the page in the first `u` bytes, which is page 1 where `first` says so.
 ///
@@ -50,7 +48,13 @@ pub fn read_page(alloc: Global, bytes: &[u8], u: usize, first: bool) -> Result<P
 }
 
 // Checks all parts of a page whose header stands at `at` and its pointers at `pointers`.
-fn check_parts(bytes: &[u8], u: usize, at: usize, pointers: usize, kind: Kind) -> Result<usize, usize>
+fn check_parts(
+    bytes: &[u8],
+    u: usize,
+    at: usize,
+    pointers: usize,
+    kind: Kind,
+) -> Result<usize, usize>
     requires usable { (480 ≤ u) × (u ≤ 65536) × (u ≤ length bytes.now) }
     requires head { (at + 8 ≤ pointers) × (pointers ≤ 112) }
     ensures { IsChecked u at pointers kind bytes.now result }
@@ -62,7 +66,12 @@ fn check_parts(bytes: &[u8], u: usize, at: usize, pointers: usize, kind: Kind) -
 }
 
 // The cell pointers.
-fn read_pointers(alloc: Global, bytes: &[u8], pointers: usize, count: usize) -> Result<Vec<u16>, AllocError>
+fn read_pointers(
+    alloc: Global,
+    bytes: &[u8],
+    pointers: usize,
+    count: usize,
+) -> Result<Vec<u16>, AllocError>
     requires { pointers + 2 * count ≤ length bytes.now }
     ensures { IfOk result (λ cells. (vec_len cells ≡ count)
         × ((i : ℕ) → i < count → slice_index cells.items i ≡ u16_at bytes.now (pointers + 2 * i))) }

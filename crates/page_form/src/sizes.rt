@@ -12,7 +12,11 @@ fn most_local(table: bool, u: usize) -> usize
     ensures above_least { least_local u ≤ result }
     ensures most { result ≤ u }
 {
-    if table { u - 35 } else { (u - 12) * 64 / 255 - 23 }
+    if table {
+        u - 35
+    } else {
+        (u - 12) * 64 / 255 - 23
+    }
 }
 
 // M: the least bytes that a cell stores of a payload that is too large.
@@ -62,5 +66,9 @@ pub(crate) fn stored_size(table: bool, u: usize, payload: u64) -> usize
     ensures most { result ≤ u + 4 }
 {
     let local = local_size(table, u, payload);
-    if spills(table, u, payload) { local + 4 } else { local }
+    if spills(table, u, payload) {
+        local + 4
+    } else {
+        local
+    }
 }

@@ -84,4 +84,3 @@ returns-else-cell-lt-LEAST_CELL-clause-refused c =
 
 pub returns-else-cell-lt-LEAST_CELL-clause-rest : goal.returns-else-cell-lt-LEAST_CELL-clause-rest
 returns-else-cell-lt-LEAST_CELL-clause-rest c = keeps_outside (c.form_of-form.ensures.form c.requires.shown.0 c.requires.shown.1) c.put_whole-else-cell-lt-LEAST_CELL.ensures.rest
-

@@ -17,14 +17,16 @@ unreachable-requires c =
     absurd (cc (none, some))
 
 pub returns : goal.returns
-returns c = record { form = λ node shown.
-    let k = shown_kind c.args.u c.args.first c.args.bytes.now node shown in
-    let told : kind_of (get_or c.args.bytes.now c.header_at-at.result 0) ≡ Some c.in-Some.kind = sym c.kind_of.ensures ∙ c.in-Some.is in
-    let some = rw (sym c.header_at-at.ensures.at) at k.1 in
-    let kind : c.in-Some.kind ≡ node.kind = cc (told, some) in
-    record {
-      u = refl;
-      at = c.header_at-at.ensures.at;
-      pointers = c.pointers_at.ensures.at ∙ ap (pointers_at c.args.first) kind;
-      kind = kind;
-    } }
+returns c = record {
+  form = λ node shown.
+      let k = shown_kind c.args.u c.args.first c.args.bytes.now node shown in
+      let told : kind_of (get_or c.args.bytes.now c.header_at-at.result 0) ≡ Some c.in-Some.kind = sym c.kind_of.ensures ∙ c.in-Some.is in
+      let some = rw (sym c.header_at-at.ensures.at) at k.1 in
+      let kind : c.in-Some.kind ≡ node.kind = cc (told, some) in
+      record {
+        u = refl;
+        at = c.header_at-at.ensures.at;
+        pointers = c.pointers_at.ensures.at ∙ ap (pointers_at c.args.first) kind;
+        kind = kind;
+      };
+}

@@ -15,8 +15,8 @@ returns-clause-shows c = λ of shown.
       pieces = insert shown.pieces c.args.k (record { start = start; bytes = c.args.cell.now });
       blocks = shown.blocks;
       is_page = put_is_page form.u form.at form.pointers c.args.k start form.kind c.args.cell.now c.args.bytes.now c.lay_cell.new.bytes c.add_pointer.new.bytes c.set_head.new.bytes
-      shown.pieces shown.blocks p (omega (arith, p.holds.count)) c.requires.some c.requires.whole (omega (arith, c.content_start.ensures.start)) (omega (arith, c.content_start.ensures.start, p.holds.count))
-      c.lay_cell.ensures.same c.lay_cell.ensures.others adds
-      (omega (arith, c.set_head.ensures.count)) (c.set_head.ensures.start) c.set_head.ensures.others;
+          shown.pieces shown.blocks p (omega (arith, p.holds.count)) c.requires.some c.requires.whole (omega (arith, c.content_start.ensures.start)) (omega (arith, c.content_start.ensures.start, p.holds.count))
+          c.lay_cell.ensures.same c.lay_cell.ensures.others adds
+          (omega (arith, c.set_head.ensures.count)) (c.set_head.ensures.start) c.set_head.ensures.others;
       texts_are = texts_of-insert shown.pieces c.args.k _ ∙ ap (λ xs. insert xs c.args.k c.args.cell.now) shown.texts_are;
     }

@@ -8,13 +8,15 @@ use Rattle.page_edit.proofs.moving.pack_over.Goals as goal
 
 pub move_cells-end-requires-clause-holds : goal.move_cells-end-requires-clause-holds
 move_cells-end-requires-clause-holds c =
-    let h = c.requires.holds.1 in
-    (c.requires.holds.0, record {
-      content = h.content;
-      pieces = h.pieces;
-      has = has_alike h.has (omega (arith, c.copy_front.ensures.size, c.requires.spare)) c.copy_front.ensures.front;
-      texts_are = h.texts_are;
-    })
+    let h = c.requires.holds.1 in (
+      c.requires.holds.0,
+      record {
+        content = h.content;
+        pieces = h.pieces;
+        has = has_alike h.has (omega (arith, c.copy_front.ensures.size, c.requires.spare)) c.copy_front.ensures.front;
+        texts_are = h.texts_are;
+      },
+    )
 
 pub set_packed-requires-clause-end : goal.set_packed-requires-clause-end
 set_packed-requires-clause-end c =
@@ -32,7 +34,7 @@ returns-clause-shows c = λ texts h.
       pieces = packed c.args.form.u h.pieces;
       blocks = [];
       is_page = packed_page c.args.form.u c.args.form.at c.args.form.pointers h.content c.args.form.kind c.args.bytes.now c.move_cells-end.new.bytes c.set_packed.new.bytes h.pieces c.move_cells-end.result
-      h.has m e.start e.blocks e.fragments e.count e.flag e.others;
+          h.has m e.start e.blocks e.fragments e.count e.flag e.others;
       texts_are = texts_of-packed c.args.form.u h.pieces ∙ h.texts_are;
     }
 

@@ -1,8 +1,6 @@
 use Rattle.std.proofs.Common.{◌≡◌, ◌<◌, length, ◌∙◌, get_or, sym, subst, arith}
 use Rattle.std.proofs.lemmas.Grind.{get_or_default_zero}
-use Rattle.node_spec.specs.Nodes.{cell_at}
-use Rattle.node_spec.specs.Cells.{cell_in}
-use Rattle.page_form.specs.Reading.{CellStands, TellsCell}
+use Rattle.page_form.specs.Reading.{CellStands}
 use Rattle.page_form.proofs.CellReads.{cell_here}
 use Rattle.page_form.proofs.cells.read_cell.Goals as goal
 

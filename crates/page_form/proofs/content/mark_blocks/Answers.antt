@@ -1,5 +1,4 @@
-use Rattle.std.proofs.Common.{◌≡◌, ℕ, ◌<◌, ◌≤◌, ◌+◌, ◌∙◌, false, refl, sym, subst, arith}
-use Rattle.page_spec.specs.Bytes.{u16_at}
+use Rattle.std.proofs.Common.{◌∙◌, sym, subst, arith}
 use Rattle.node_spec.proofs.Decode.{block_fits}
 use Rattle.page_form.proofs.Chains.{Walking, walk_begins, walk_ends, walk_breaks, walk_goes_on}
 use Rattle.page_form.proofs.content.mark_blocks.Goals as goal
@@ -8,7 +7,7 @@ pub loop-at-init : goal.loop-at-init
 loop-at-init c = record {
   at_fits = omega (arith, c.from-at.ensures, c.ranges.first.fits);
   walking = subst (λ n. Walking c.args.u c.args.content c.args.bytes.now c.args.first 0 n 0 c.args.marks.now c.args.marks.now) (sym c.from-at.ensures)
-  (walk_begins c.args.u c.args.content c.args.bytes.now c.args.first c.args.marks.now);
+      (walk_begins c.args.u c.args.content c.args.bytes.now c.args.first c.args.marks.now);
 }
 
 pub returns-then-not-is_block : goal.returns-then-not-is_block

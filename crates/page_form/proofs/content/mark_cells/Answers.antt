@@ -1,4 +1,4 @@
-use Rattle.std.proofs.Common.{◌∙◌, refl, sym, arith}
+use Rattle.std.proofs.Common.{sym, arith}
 use Rattle.node_spec.specs.Faults.{cell_fault}
 use Rattle.node_spec.proofs.FaultLaws.{none_first, first_some, first_more}
 use Rattle.page_form.proofs.Checks.{cell_good, cell_bad}
@@ -25,7 +25,7 @@ loop-i-preserved c =
     c.loop-i.marks c.mark.new.marks (omega (arith, c.requires.usable)) c.get_u16-start.ensures c.from-in-loop-i.ensures is.0 is.1 c.mark.ensures.inside c.mark.ensures.outside in
     record {
       none = first_more c.loop-i.i (cell_fault c.args.u c.args.kind c.args.bytes.now c.args.pointers) c.loop-i.invariant.none
-      (cell_good c.args.u c.args.kind c.args.bytes.now c.args.pointers c.loop-i.i c.get_u16-start.result c.get_u16-start.ensures (omega (arith, is.0, is.1)));
+          (cell_good c.args.u c.args.kind c.args.bytes.now c.args.pointers c.loop-i.i c.get_u16-start.result c.get_u16-start.ensures (omega (arith, is.0, is.1)));
       sum = omega (arith, c.loop-i.invariant.sum, more.sum);
       most = omega (arith, c.loop-i.invariant.most, is.1, c.requires.usable);
       marks = more.marks c.loop-i.invariant.marks;

@@ -1,4 +1,4 @@
-use Rattle.std.proofs.Common.{◌≡◌, ◌+◌, ◌*◌, ◌<◌, sym, arith}
+use Rattle.std.proofs.Common.{◌+◌, ◌*◌, sym, arith}
 use Rattle.node_spec.proofs.FaultLaws.{none_first, first_some, first_more}
 use Rattle.node_spec.specs.Faults.{pointer_fault}
 use Rattle.page_form.proofs.Checks.{pointer_bad, pointer_good}

@@ -1,4 +1,4 @@
-use Rattle.std.proofs.Common.{◌≡◌, Option, None}
+use Rattle.std.proofs.Common.{◌≡◌, None}
 use Rattle.node_spec.specs.Faults.{first_fault, pointer_fault}
 use Rattle.page_form.proofs.front.bad_pointer.Given as goal
 

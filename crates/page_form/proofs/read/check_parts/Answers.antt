@@ -1,4 +1,4 @@
-use Rattle.std.proofs.Common.{◌≡◌, ◌∙◌, sym, arith, Option, Some, None}
+use Rattle.std.proofs.Common.{◌∙◌, sym}
 use Rattle.page_form.proofs.Pages.{front_room, front_bad, front_good}
 use Rattle.page_form.proofs.read.check_parts.Goals as goal
 

@@ -1,6 +1,5 @@
-use Rattle.std.proofs.Common.{◌≡◌, ◌+◌, ◌*◌, ◌∙◌, sym, refl, ap, length, get_or, arith, Some, None}
+use Rattle.std.proofs.Common.{◌+◌, ◌∙◌, sym, refl, ap, arith}
 use Rattle.page_spec.specs.Bytes.{u16_at}
-use Rattle.node_spec.specs.Kinds.{header_at, pointers_at}
 use Rattle.page_form.proofs.Pages.{no_kind, bad_part, good_page, tells_page}
 use Rattle.page_form.proofs.read.read_page.Goals as goal
 
@@ -38,6 +37,8 @@ pub returns-clause-told : goal.returns-clause-told
 returns-clause-told c =
     let good = good_page c.args.u c.args.first c.args.bytes.now c.header_at-at.result c.pointers_at-pointers.result c.in-Some.kind c.in-Ok.taken c.requires.usable.0
     c.requires.usable.1 c.requires.usable.2 c.header_at-at.ensures.at (sym c.kind_of.ensures ∙ c.in-Some.is) c.pointers_at-pointers.ensures.at c.in-Ok.ensures.0 c.in-Ok.ensures.1 in
-    let count = c.from-count.ensures ∙ c.get_u16.ensures ∙ ap (λ n. u16_at c.args.bytes.now (n + 3)) c.header_at-at.ensures.at in
-    (good.node, tells_page good c.pointers_at-pointers.result c.from-count.result _ c.pointers_at-pointers.ensures.at count refl
-    c.in-Ok-read_pointers.ensures.0 c.in-Ok-read_pointers.ensures.1 c.right_child.ensures refl)
+    let count = c.from-count.ensures ∙ c.get_u16.ensures ∙ ap (λ n. u16_at c.args.bytes.now (n + 3)) c.header_at-at.ensures.at in (
+      good.node,
+      tells_page good c.pointers_at-pointers.result c.from-count.result _ c.pointers_at-pointers.ensures.at count refl
+          c.in-Ok-read_pointers.ensures.0 c.in-Ok-read_pointers.ensures.1 c.right_child.ensures refl,
+    )
