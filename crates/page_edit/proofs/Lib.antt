@@ -1,0 +1,4 @@
+pub mod Lists
+pub mod Puts
+pub mod Packs
+pub mod Shown
