@@ -1,0 +1,4 @@
+pub mod Tests
+pub mod Ladder
+pub mod Tables
+pub mod Statements
