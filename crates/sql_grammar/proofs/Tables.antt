@@ -129,15 +129,15 @@ sizes_decides : (one : Typed) (K : Lexeme → Bool) → Decides (sizes one) K
 unfolding sizes same_symbol
 sizes_decides one K = λ _. ((λ _ _ _. tt), (λ _. tt), λ t k. apart sign.Close (is sign.Comma) refl t k)
 
-more_none : (wide : Bool) (one : Typed) (t : Lexeme) → type_of true t ≡ None → more_type_of wide one t ≡ None
-more_none true one t h = h
-more_none false one t h = refl
+more_none : (wide : Bool) (t : Lexeme) → type_of true t ≡ None → more_type_of wide t ≡ None
+more_none true t h = h
+more_none false t h = refl
 
 type_words_decides : (wide : Bool) (first : Typed) → Decides (type_words wide first) ends_words
 unfolding type_words same_symbol
 type_words_decides wide first = (
   (λ _ _. tt),
-  (λ one t k. more_none wide one t (none_all (sign.Open ∷ sign.Primary ∷ sign.Not ∷ sign.Unique ∷ sign.Comma ∷ sign.Close ∷ []) (type_of true) refl t k)),
+  (λ one t k. more_none wide t (none_all (sign.Open ∷ sign.Primary ∷ sign.Not ∷ sign.Unique ∷ sign.Comma ∷ sign.Close ∷ []) (type_of true) refl t k)),
   (λ t k. refl),
   λ one t b takes. refl,
 )

@@ -67,8 +67,8 @@ type_of true (lexeme.Aggregate function spelling) = Some (typed (affinity_in spe
 type_of _ _ = None
 
 -- one more word of a type, in a file alone
-abbrev pub more_type_of : Bool → Typed → Lexeme → Option Typed
-more_type_of wide so_far t = if wide then type_of true t else None
+abbrev pub more_type_of : Bool → Lexeme → Option Typed
+more_type_of wide t = if wide then type_of true t else None
 
 abbrev pub widened : Typed → Typed → Typed
 widened one other = typed (stronger one.affinity other.affinity) false
@@ -98,7 +98,7 @@ abbrev pub any : Lexeme → Bool
 any t = true
 
 unfoldable pub type_words : Bool → Typed → Grammar Lexeme Typed
-type_words wide first = many any (more_type_of wide) (λ one other. give (widened one other)) first
+type_words wide first = many any (λ _. more_type_of wide) (λ one other. give (widened one other)) first
 
 -- behind the first word of a type
 unfoldable pub whole_type : Bool → Typed → Grammar Lexeme Typed
@@ -143,11 +143,18 @@ as_key one automatic = record one {
   wider = one.wider || (automatic || not one.typed.integer);
 }
 
+abbrev pub as_not_null : Draft → Draft
+as_not_null one = record one { column = record one.column { not_null = true } }
+
+-- UNIQUE is beyond what a statement takes
+abbrev pub as_unique : Draft → Draft
+as_unique one = record one { unique = true; wider = true }
+
 unfoldable pub constrained : Bool → Draft → Constraint → Grammar Lexeme Draft
 constrained wide one constraint.Key =
     must (is_word word.Key) (λ _. may (λ t. if_wide wide (is_word word.Autoincrement t)) (λ _. give (as_key one true)) (give (as_key one false)))
-constrained wide one constraint.NotNull = must (is sign.Null) (λ _. give (record one { column = record one.column { not_null = true } }))
-constrained wide one constraint.Unique = give (record one { unique = true; wider = true })
+constrained wide one constraint.NotNull = must (is sign.Null) (λ _. give (as_not_null one))
+constrained wide one constraint.Unique = give (as_unique one)
 
 -- what may follow a column
 abbrev pub ends_column : Lexeme → Bool
@@ -158,14 +165,11 @@ constraints wide keyed first = many ends_type (constraint_of wide keyed) (constr
 
 -- ---- columns
 
--- what the table is good for with one column more
-abbrev pub state_of : Draft → Use
-state_of one = use_of one.typed.affinity one.wider
-  where
-    use_of : Option Affinity → Bool → Use
-    use_of None wider = state.Unusable
-    use_of (Some affinity) true = state.ReadOnly
-    use_of (Some affinity) false = state.Usable
+-- what the column leaves of the table's use: one of no known type none, one beyond what a statement takes reading
+abbrev pub use_of : Option Affinity → Bool → Use
+use_of None wider = state.Unusable
+use_of (Some affinity) true = state.ReadOnly
+use_of (Some affinity) false = state.Usable
 
 abbrev pub worse : Use → Use → Use
 worse state.Unusable other = state.Unusable
@@ -177,7 +181,7 @@ abbrev pub with_column : Declared → Draft → Declared
 with_column table one = record {
   columns = table.columns ++ one.column ∷ [];
   keyed = table.keyed || one.keyed;
-  state = worse table.state (state_of one);
+  state = worse table.state (use_of one.typed.affinity one.wider);
 }
 
 abbrev pub no_columns : Declared
