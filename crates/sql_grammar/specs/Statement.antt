@@ -275,15 +275,20 @@ select =
 
 -- ---- all of them
 
+-- the statements that begin with a word which is no name
+abbrev pub by_symbol : Grammar Lexeme Statement
+by_symbol =
+    may (is sign.Create) (λ _. created)
+    (may (is sign.Drop) (λ _. dropped)
+    (may (is sign.Insert) (λ _. insert)
+    (may (is sign.Update) (λ _. update)
+    (may (is sign.Delete) (λ _. delete)
+    (must (is sign.Select) (λ _. select)))))
+
 unfoldable pub statement_grammar : Grammar Lexeme Statement
 statement_grammar =
     may (is_word word.Begin) (λ _. begun)
     (may (is_word word.Commit) (λ _. closed statement.Commit)
     (may (is_word word.End) (λ _. closed statement.Commit)
     (may (is_word word.Rollback) (λ _. closed statement.Rollback)
-    (may (is sign.Create) (λ _. created)
-    (may (is sign.Drop) (λ _. dropped)
-    (may (is sign.Insert) (λ _. insert)
-    (may (is sign.Update) (λ _. update)
-    (may (is sign.Delete) (λ _. delete)
-    (must (is sign.Select) (λ _. select))))))))))
+    by_symbol)))
