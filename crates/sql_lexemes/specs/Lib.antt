@@ -1,0 +1,3 @@
+pub mod Lexemes
+pub mod Values
+pub mod Words
