@@ -2,3 +2,4 @@ pub mod Tests
 pub mod Ladder
 pub mod Tables
 pub mod Statements
+pub mod Depth

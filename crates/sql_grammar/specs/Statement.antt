@@ -283,7 +283,7 @@ by_symbol =
     (may (is sign.Insert) (λ _. insert)
     (may (is sign.Update) (λ _. update)
     (may (is sign.Delete) (λ _. delete)
-    (must (is sign.Select) (λ _. select)))))
+    (must (is sign.Select) (λ _. select))))))
 
 unfoldable pub statement_grammar : Grammar Lexeme Statement
 statement_grammar =

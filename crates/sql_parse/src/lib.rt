@@ -2,6 +2,7 @@
 #![tactic(auto)]
 
 mod change;
+mod created;
 mod lists;
 mod select;
 mod statement;

@@ -8,7 +8,7 @@ ghost use Rattle.sql_exprs.specs.Gives.{Gives};
 use crate::change::{created, delete, dropped, insert, update};
 use crate::select::select;
 use run_spec::Mode;
-use sql_exprs::{ParseError, after, after_word, expect};
+use sql_exprs::{ParseError, after, after_word, after_word_if, expect};
 use sql_grammar::Statement;
 use sql_lexemes::{Lexeme, Symbol, Word};
 use std::alloc::Global;
@@ -37,14 +37,6 @@ fn closed(statement: Statement, lexemes: &[Lexeme]) -> (Statement, &[Lexeme])
     }
 }
 
-/// The lexemes after CONCURRENT, where it stands at the front and may stand there.
-fn after_concurrent(lexemes: &[Lexeme]) -> Option<&[Lexeme]>
-    ensures { next spec.concurrent_of lexemes.now ≡ option_map (λ rest. (tt, rest.now)) result }
-{
-    let (first, rest) = lexemes.split_first()?;
-    if TAKES_CONCURRENT { after_word(Word::Concurrent, lexemes) } else { None }
-}
-
 /// A BEGIN, behind its first word.
 #[tactic(auto, unfolding(sql_grammar::specs::Statement::begun))]
 fn begun(lexemes: &[Lexeme]) -> (Statement, &[Lexeme])
@@ -53,7 +45,7 @@ fn begun(lexemes: &[Lexeme]) -> (Statement, &[Lexeme])
     if let Some(rest) = after_word(Word::Deferred, lexemes) {
         return closed(Statement::Begin(Mode::Plain), rest);
     }
-    match after_concurrent(lexemes) {
+    match after_word_if(TAKES_CONCURRENT, Word::Concurrent, lexemes) {
         Some(rest) => closed(Statement::Begin(Mode::Concurrent), rest),
         None => closed(Statement::Begin(Mode::Plain), lexemes),
     }

@@ -91,47 +91,28 @@ fn constraint_at<'a>(
 fn as_key(one: Draft, automatic: bool) -> Draft
     ensures { result ≡ spec.as_key one automatic }
 {
-    Draft {
-        column: Column {
-            name: one.column.name,
-            affinity: one.column.affinity,
-            not_null: one.column.not_null,
-            is_rowid: one.typed.integer,
-        },
-        typed: one.typed,
-        keyed: true,
-        unique: one.unique,
-        wider: one.wider || (automatic || !one.typed.integer),
-    }
+    let mut one = one;
+    one.wider = one.wider || (automatic || !one.typed.integer);
+    one.column.is_rowid = one.typed.integer;
+    one.keyed = true;
+    one
 }
 
 fn as_not_null(one: Draft) -> Draft
     ensures { result ≡ spec.as_not_null one }
 {
-    Draft {
-        column: Column {
-            name: one.column.name,
-            affinity: one.column.affinity,
-            not_null: true,
-            is_rowid: one.column.is_rowid,
-        },
-        typed: one.typed,
-        keyed: one.keyed,
-        unique: one.unique,
-        wider: one.wider,
-    }
+    let mut one = one;
+    one.column.not_null = true;
+    one
 }
 
 fn as_unique(one: Draft) -> Draft
     ensures { result ≡ spec.as_unique one }
 {
-    Draft {
-        column: one.column,
-        typed: one.typed,
-        keyed: one.keyed,
-        unique: true,
-        wider: true,
-    }
+    let mut one = one;
+    one.unique = true;
+    one.wider = true;
+    one
 }
 
 /// A constraint, behind its first word.
@@ -220,7 +201,7 @@ fn with_column(table: Declared, one: Draft) -> Result<Declared, AllocError>
 }
 
 /// One more column.
-#[tactic(auto, unfolding(sql_grammar::specs::Table::column))]
+#[tactic(auto, unfolding(sql_grammar::specs::Table::column, sql_grammar::specs::Table::name))]
 fn column(
     alloc: Global,
     wide: bool,

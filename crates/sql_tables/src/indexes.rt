@@ -41,7 +41,7 @@ fn columns(alloc: Global, lexemes: &[Lexeme]) -> Result<(Items<Txt>, &[Lexeme]),
 }
 
 /// What stands behind CREATE INDEX: the name, the table and its columns.
-#[tactic(auto, unfolding(sql_grammar::specs::Table::index))]
+#[tactic(auto, unfolding(sql_grammar::specs::Table::index, sql_grammar::specs::Table::name))]
 pub fn index(alloc: Global, lexemes: &[Lexeme]) -> Result<(IndexText, &[Lexeme]), ParseError<'_>>
     ensures { Gives (λ x. (x.0, x.1.now)) result (read spec.index lexemes.now) }
 {

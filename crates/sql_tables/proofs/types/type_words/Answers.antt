@@ -9,7 +9,7 @@ pub loop-other-preserved : goal.loop-other-preserved
 loop-other-preserved c =
     c.loop-other.invariant
     ∙ (type_words_on c.args.wide c.loop-other.all c.loop-other.rest.now c.in-Some.other c.in-Some.more.now c.in-Some.ensures
-    ∙ ap (λ v. read (type_words c.args.wide v) c.in-Some.more.now) (sym c.widened.ensures))
+    ∙ ap (λ v. read (type_words c.args.wide v) c.in-Some.more.now) (sym c.widened-all.ensures))
 
 pub loop-other-smaller : goal.loop-other-smaller
 loop-other-smaller c = type_words_shorter c.args.wide c.loop-other.all c.loop-other.rest.now c.in-Some.other c.in-Some.more.now c.in-Some.ensures
