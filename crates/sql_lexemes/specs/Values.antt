@@ -1,7 +1,7 @@
 -- What numbers, quoted texts and blobs stand for.
 use Rattle.std.specs.Prelude.{ℕ, pos, min, ◌+◌, ◌-◌, ◌*◌, ◌^◌, Bool, true, false, ◌==◌, nat_lt, if◌then◌else◌, List, [], ◌∷◌, length, take, drop}
 use Rattle.std.specs.List.{list_all}
-use Rattle.sql_text.specs.Scan.{between, is_digit}
+use Rattle.sql_text.specs.Token.{between, is_digit}
 use Rattle.sql_lexemes.specs.declared.lexeme.Lexeme.{Lexeme}
 use Rattle.sql_lexemes.specs.declared.lexeme.Lexeme.TheVariants as l
 

@@ -1,7 +1,7 @@
 // What numbers, quoted texts and blobs stand for.
 
 ghost use Rattle.std.specs.Prelude.{◌≡◌, ◌+◌, ◌-◌, ◌*◌, false, IfOk};
-ghost use Rattle.sql_text.specs.Scan as scan;
+ghost use Rattle.sql_text.specs.Token as token;
 ghost use Rattle.sql_lexemes.specs.Values as spec;
 
 use crate::lexeme::Lexeme;
@@ -15,7 +15,7 @@ const LEAST: u64 = 1 << 63;
 const HUGE: u64 = LEAST + 1;
 
 fn is_digit(byte: u8) -> bool
-    ensures { result ≡ scan.is_digit byte }
+    ensures { result ≡ token.is_digit byte }
 {
     byte >= b'0' && byte <= b'9'
 }

@@ -8,10 +8,11 @@ use Rattle.std.proofs.str.Laws.{order}
 use Rattle.sql_text.specs.declared.token.Token.{Token}
 use Rattle.sql_text.specs.declared.token.TokenKind.{TokenKind}
 use Rattle.sql_text.specs.declared.state.State.TheVariants as state
-use Rattle.sql_text.specs.Scan.{start, pick, ended_before, token_of, IsLongest, longest}
+use Rattle.sql_text.specs.Token.{IsLongest}
+use Rattle.sql_text.specs.Scan.{start, pick, ended_before, token_of, longest}
 use Rattle.sql_text.specs.Cut.{is_space, AreSpaces, IsCut, IsBadAt, IsWithin, Tokens, token_at, with_token, tokens_from, tokens_of, bad_of}
 use Rattle.sql_text.proofs.Cutting.{at_place, here, before, space_here, token_here, bad_here, end_here}
-use Rattle.sql_text.proofs.Longest.{scan_longest, longest_within, longest_some}
+use Rattle.sql_text.proofs.TokenLaws.{accepted, longest_is, one_longest, token_some}
 
 no_spaces : (text : List ℕ) (at : ℕ) → AreSpaces text at at
 no_spaces text at = (omega arith, λ i low high. absurd (omega (arith, low, high)))
@@ -58,8 +59,8 @@ module _ (text : List ℕ) (at : ℕ) (within : at < length text) (bytes : List 
       → ShowsAll text at (with_token at found (λ size. tokens_from (at + 1) (size - 1) bytes))
   by_longest other None longest long = (no_spaces text at, within, other, longest)
   by_longest other (Some p) longest long =
-      let some : 0 < p.1 = longest_some (drop at text) p longest in
-      let fits : p.1 ≤ length bytes + 1 = omega (arith, long, longest_within (drop at text) p longest) in
+      let some : 0 < p.1 = token_some (drop at text) p.0 p.1 longest.0 in
+      let fits : p.1 ≤ length bytes + 1 = omega (arith, long, longest.0.0) in
       let place : at + 1 + (p.1 - 1) ≡ at + p.1 = omega (arith, some) in
       let rest = tokens_from (at + 1) (p.1 - 1) bytes in
       shows_token text at p.0 p.1 some longest rest.found rest.bad (subst (λ n. ShowsAll text n rest) place (again (p.1 - 1) (omega (arith, some, fits))))
@@ -101,7 +102,7 @@ shown (byte ∷ bytes) at zero text is within short =
     let place : at ≡ at + 0 = omega arith in
     subst (λ n. ShowsAll text n (tokens_from at 0 (byte ∷ bytes))) place
     (by_space text at inside bytes (λ taken short. shown bytes (at + 1) taken text rest (omega (arith, inside)) short) (is_space byte)
-    (sym (ap is_space first)) (longest (byte ∷ bytes)) (subst (λ w. IsLongest w (longest (byte ∷ bytes))) is (scan_longest (byte ∷ bytes)))
+    (sym (ap is_space first)) (longest (byte ∷ bytes)) (subst (λ w. IsLongest w (longest (byte ∷ bytes))) is (longest_is (byte ∷ bytes)))
     (omega (arith, ap length is)))
 
 pub shows : (text : List ℕ) → Shows text 0 (tokens_of text) (bad_of text)
@@ -110,7 +111,7 @@ shows text = shown text 0 0 text refl (omega arith) (omega arith)
 -- ---- each token lies inside the text
 
 longest_inside : (text : List ℕ) (t : Token) → t.start < t.end → IsLongest (drop t.start text) (Some (t.kind, t.end - t.start)) → t.end ≤ length text
-longest_inside text t some long = omega (arith, longest_within (drop t.start text) (t.kind, t.end - t.start) long, length-drop t.start text, some)
+longest_inside text t some long = omega (arith, long.0.0, length-drop t.start text, some)
 
 cut_within : (ts : List Token) (text : List ℕ) (from to : ℕ) → IsCut text from ts to → All (IsWithin text) ts
 cut_within [] text from to h = All-nil (IsWithin text)
@@ -128,24 +129,8 @@ all_within text = shows_within text (tokens_of text) (bad_of text) (shows text)
 some_none : {A : Type 0} (o : Option A) (a : A) → o ≡ Some a → o ≡ None → ⊥
 some_none o a e f = cc
 
-some_same : {A : Type 0} (o : Option A) (a b : A) → o ≡ Some a → o ≡ Some b → a ≡ b
-some_same o a b e f = cc
-
--- no two tokens are the longest
-pub one_longest : (bytes : List ℕ) (r s : Option (TokenKind × ℕ)) → IsLongest bytes r → IsLongest bytes s → r ≡ s
-one_longest bytes None None h k = refl
-one_longest bytes None (Some q) h k = absurd (some_none (token_of state.Start bytes q.1) q.0 k.0 (h q.1))
-one_longest bytes (Some p) None h k = absurd (some_none (token_of state.Start bytes p.1) p.0 h.0 (k p.1))
-one_longest bytes (Some p) (Some q) h k =
-    ⊎_elim (λ less. absurd (some_none (token_of state.Start bytes q.1) q.0 k.0 (h.1 q.1 (omega (arith, less)))))
-    (λ least. ⊎_elim (λ more. absurd (some_none (token_of state.Start bytes p.1) p.0 h.0 (k.1 p.1 (omega (arith, more)))))
-    (λ most.
-    let same : q.1 ≡ p.1 = omega (arith, least, most) in
-    let kinds : p.0 ≡ q.0 = some_same (token_of state.Start bytes p.1) p.0 q.0 h.0 (subst (λ n. token_of state.Start bytes n ≡ Some q.0) same k.0) in
-    λ i. Some (kinds i, sym same i)) (order q.1 p.1)) (order p.1 q.1)
-
-longest_is : (bytes : List ℕ) (r : Option (TokenKind × ℕ)) → IsLongest bytes r → longest bytes ≡ r
-longest_is bytes r h = one_longest bytes (longest bytes) r (scan_longest bytes) h
+found_is : (bytes : List ℕ) (r : Option (TokenKind × ℕ)) → IsLongest bytes r → longest bytes ≡ r
+found_is bytes r h = one_longest bytes (longest bytes) r (longest_is bytes) h
 
 or_true : (a b : Bool) → (a || b) ≡ true → (a ≡ true) ⊎ (b ≡ true)
 or_true true b h = inl refl
@@ -164,11 +149,14 @@ space_starts_none byte is =
     (or_true (byte == 9) (byte == 10 || (byte == 12 || byte == 13)) h))
     (or_true (byte == 32) (byte == 9 || (byte == 10 || (byte == 12 || byte == 13))) is)
 
+no_end : (byte : ℕ) (bytes : List ℕ) → is_space byte ≡ true → (n : ℕ) → token_of state.Start (byte ∷ bytes) n ≡ None
+unfolding token_of
+no_end byte bytes is zero = ap (λ o. ended_before state.Start o) (space_starts_none byte is)
+no_end byte bytes is (suc n) = ap (λ o. pick o None (λ next. token_of next bytes n)) (space_starts_none byte is)
+
 -- no token begins with a space
 space_none : (byte : ℕ) (bytes : List ℕ) → is_space byte ≡ true → IsLongest (byte ∷ bytes) None
-unfolding token_of
-space_none byte bytes is zero = ap (λ o. ended_before state.Start o) (space_starts_none byte is)
-space_none byte bytes is (suc n) = ap (λ o. pick o None (λ next. token_of next bytes n)) (space_starts_none byte is)
+space_none byte bytes is kind n token = some_none (token_of state.Start (byte ∷ bytes) n) kind (accepted (byte ∷ bytes) kind n token) (no_end byte bytes is n)
 
 no_space : (text : List ℕ) (at : ℕ) (p : TokenKind × ℕ) → at < length text → IsLongest (drop at text) (Some p) → is_space (slice_index text at) ≡ false
 no_space text at p within longest = by_cases (is_space (slice_index text at)) refl
@@ -178,7 +166,7 @@ no_space text at p within longest = by_cases (is_space (slice_index text at)) re
     by_cases true is =
         let none : IsLongest (drop at text) None =
         subst (λ w. IsLongest w None) (sym (at_place text at within)) (space_none (slice_index text at) (drop (at + 1) text) is) in
-        absurd (some_none (token_of state.Start (drop at text) p.1) p.0 longest.0 (none p.1))
+        absurd (none p.0 p.1 longest.0)
 
 spaces_here : (n : ℕ) (text : List ℕ) (from to : ℕ) → to ≡ from + n → to ≤ length text → AreSpaces text from to → here text from ≡ here text to
 spaces_here zero text from to is within spaces = let same : from ≡ to = omega (arith, is) in ap (here text) same
@@ -197,11 +185,11 @@ pub cut_here : (ts : List Token) (text : List ℕ) (from to : ℕ) → to ≤ le
 cut_here [] text from to within spaces = all_spaces_here text from to within spaces
 cut_here (t ∷ ts) text from to within (spaces, some, longest, rest) =
     let size : ℕ = t.end - t.start in
-    let fits : t.start + size ≤ length text = omega (arith, longest_within (drop t.start text) (t.kind, size) longest, length-drop t.start text, some) in
+    let fits : t.start + size ≤ length text = omega (arith, longest.0.0, length-drop t.start text, some) in
     let inside : t.start < length text = omega (arith, some, fits) in
     let place : t.start + size ≡ t.end = omega (arith, some) in
     all_spaces_here text from t.start (omega (arith, inside)) spaces
-    ∙ (token_here text t.start inside t.kind size (no_space text t.start (t.kind, size) inside longest) (longest_is (drop t.start text) (Some (t.kind, size)) longest) (omega (arith, some)) fits
+    ∙ (token_here text t.start inside t.kind size (no_space text t.start (t.kind, size) inside longest) (found_is (drop t.start text) (Some (t.kind, size)) longest) (omega (arith, some)) fits
     ∙ (ap (λ u. before (u ∷ []) (here text (t.start + size))) (same_token t some)
     ∙ (ap (λ n. before (t ∷ []) (here text n)) place ∙ ap (before (t ∷ [])) (cut_here ts text t.end to within rest))))
 
@@ -217,4 +205,4 @@ one_cut text ts cut =
 pub one_bad : (text : List ℕ) (ts : List Token) (at : ℕ) → IsBadAt text 0 ts at → tokens_from 0 0 text ≡ tokens_to ts (Some at)
 one_bad text ts at (cut, within, other, none) =
     cut_here ts text 0 at (omega (arith, within)) cut
-    ∙ (ap (before ts) (bad_here text at within other (longest_is (drop at text) None none)) ∙ ap (λ all. tokens_to all (Some at)) (append-nil ts))
+    ∙ (ap (before ts) (bad_here text at within other (found_is (drop at text) None none)) ∙ ap (λ all. tokens_to all (Some at)) (append-nil ts))

@@ -6,6 +6,7 @@
 
 ghost use Rattle.std.specs.Prelude.{◌≡◌, ◌<◌, ◌≤◌, length, IfSome};
 ghost use Rattle.sql_text.specs.Scan as spec;
+ghost use Rattle.sql_text.specs.Token.{IsLongest};
 
 use crate::state::{State, is_quoted, kind, step};
 use crate::token::TokenKind;
@@ -65,7 +66,8 @@ fn scan(bytes: &[u8]) -> Option<(TokenKind, usize)>
 
 /// The kind and the size of the longest token that begins the bytes; none where no token does.
 pub fn longest(bytes: &[u8]) -> Option<(TokenKind, usize)>
-    ensures longest { result ≡ spec.longest bytes.now }
+    ensures longest { IsLongest bytes.now result }
+    ensures found { result ≡ spec.longest bytes.now }
     ensures within { IfSome result (λ p. (0 < p.1) × (p.1 ≤ length bytes.now)) }
 {
     scan(bytes)

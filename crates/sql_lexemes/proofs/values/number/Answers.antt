@@ -1,6 +1,6 @@
 use Rattle.std.proofs.Common.{◌≡◌, ◌+◌, ◌-◌, ◌*◌, true, ◌&&◌, List, ℕ, ◌∷◌, sym, ◌∙◌, ap, arith}
 use Rattle.std.specs.List.{list_all}
-use Rattle.sql_text.specs.Scan.{is_digit}
+use Rattle.sql_text.specs.Token.{is_digit}
 use Rattle.sql_lexemes.specs.Values.{number_from, capped}
 use Rattle.sql_lexemes.proofs.ValueLaws.{capped_from}
 use Rattle.sql_lexemes.proofs.values.number.Goals as goal

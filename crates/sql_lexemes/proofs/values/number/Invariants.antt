@@ -1,7 +1,7 @@
 -- What is left makes of the number so far what all of it makes of 0.
 use Rattle.std.proofs.Common.{◌≡◌, length}
 use Rattle.std.specs.List.{list_all}
-use Rattle.sql_text.specs.Scan.{is_digit}
+use Rattle.sql_text.specs.Token.{is_digit}
 use Rattle.sql_lexemes.specs.Values.{number_of, number_from, capped}
 use Rattle.sql_lexemes.proofs.values.number.Given as goal
 

@@ -18,14 +18,14 @@ loop-at-preserved-then-is_space c = (
 pub returns-in_default-clause-tokens : goal.returns-in_default-clause-tokens
 returns-in_default-clause-tokens c =
     let text = c.args.text.now in
-    let none : longest (drop c.loop-at.at text) ≡ None = ap longest (sym (rest_is text c.loop-at.at)) ∙ sym c.in_default.ensures.longest in
+    let none : longest (drop c.loop-at.at text) ≡ None = ap longest (sym (rest_is text c.loop-at.at)) ∙ sym c.in_default.ensures.found in
     sym (ap (λ r. r.found) (c.loop-at.invariant.0 ∙ ap (before c.loop-at.tokens.items) (bad_here text c.loop-at.at c.loop-at-test.true (sym c.if-is_space.ensures) none))
     ∙ append-nil c.loop-at.tokens.items)
 
 pub returns-in_default-clause-within : goal.returns-in_default-clause-within
 returns-in_default-clause-within c =
     let text = c.args.text.now in
-    let none : longest (drop c.loop-at.at text) ≡ None = ap longest (sym (rest_is text c.loop-at.at)) ∙ sym c.in_default.ensures.longest in
+    let none : longest (drop c.loop-at.at text) ≡ None = ap longest (sym (rest_is text c.loop-at.at)) ∙ sym c.in_default.ensures.found in
     subst (All (IsWithin text))
     (ap (λ r. r.found) (c.loop-at.invariant.0 ∙ ap (before c.loop-at.tokens.items) (bad_here text c.loop-at.at c.loop-at-test.true (sym c.if-is_space.ensures) none))
     ∙ append-nil c.loop-at.tokens.items) (all_within text)
@@ -33,7 +33,7 @@ returns-in_default-clause-within c =
 pub returns-in_default-clause-bad : goal.returns-in_default-clause-bad
 returns-in_default-clause-bad c =
     let text = c.args.text.now in
-    let none : longest (drop c.loop-at.at text) ≡ None = ap longest (sym (rest_is text c.loop-at.at)) ∙ sym c.in_default.ensures.longest in
+    let none : longest (drop c.loop-at.at text) ≡ None = ap longest (sym (rest_is text c.loop-at.at)) ∙ sym c.in_default.ensures.found in
     sym (ap (λ r. r.bad) (c.loop-at.invariant.0 ∙ ap (before c.loop-at.tokens.items) (bad_here text c.loop-at.at c.loop-at-test.true (sym c.if-is_space.ensures) none)))
 
 pub loop-at-preserved : goal.loop-at-preserved
@@ -42,7 +42,7 @@ loop-at-preserved c =
     let kind = c.in-Some.kind in
     let size = c.in-Some.size in
     let out = c.loop-at.tokens.items in
-    let found : longest (drop c.loop-at.at text) ≡ Some (kind, size) = ap longest (sym (rest_is text c.loop-at.at)) ∙ sym c.in-Some.ensures.longest in
+    let found : longest (drop c.loop-at.at text) ≡ Some (kind, size) = ap longest (sym (rest_is text c.loop-at.at)) ∙ sym c.in-Some.ensures.found in
     let fits : c.loop-at.at + size ≤ length text =
     omega (arith, c.in-Some.ensures.within.1, ap length (rest_is text c.loop-at.at), length-drop c.loop-at.at text, c.loop-at-test.true) in
     let more : here text c.loop-at.at ≡ before (token_at kind c.loop-at.at size ∷ []) (here text (c.loop-at.at + size)) =
