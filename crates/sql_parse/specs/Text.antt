@@ -1,6 +1,5 @@
 -- What reading a text promises: the value that the grammar gives it, or the one place where it goes wrong.
-use Rattle.std.specs.Prelude.{◌≡◌, ℕ, ◌-◌, Bool, true, false, if◌then◌else◌, List, [], ◌∷◌, ◌++◌, length, Result, Ok, Err}
-use Rattle.std.specs.List.{get_or}
+use Rattle.std.specs.Prelude.{◌≡◌, ℕ, get_or, ◌-◌, Bool, true, false, if◌then◌else◌, List, [], ◌∷◌, ◌++◌, length, Result, Ok, Err}
 use Rattle.grammars.specs.Grammar.{Grammar, Begins}
 use Rattle.grammars.specs.Exact.{IsStuck}
 use Rattle.sql_lexemes.specs.declared.lexeme.Lexeme.{Lexeme}

@@ -1,6 +1,5 @@
 // From a text to its statement, or to the place where it goes wrong.
-ghost use Rattle.std.specs.Prelude.{◌≡◌, ◌<◌, ◌^◌, ◌-◌, length, IfOk, IfErr, Ok};
-ghost use Rattle.std.specs.List.{get_or};
+ghost use Rattle.std.specs.Prelude.{◌≡◌, ◌<◌, ◌^◌, ◌-◌, length, get_or, IfOk, IfErr, Ok};
 ghost use Rattle.grammars.specs.Grammar.{Derives};
 ghost use Rattle.grammars.specs.Exact.{read_all};
 ghost use Rattle.sql_lexemes.specs.Lexemes as lexemes_are;
