@@ -3,3 +3,4 @@ pub mod Ladder
 pub mod Tables
 pub mod Statements
 pub mod Depth
+pub mod Laws

@@ -100,7 +100,7 @@ fn whole_object(alloc: Global, lexemes: &[Lexeme]) -> Result<Created, ParseError
 /// Why reading a text failed.
 fn fault_of(text: &[u8], all: &Lexemes, error: ParseError<'_>) -> ParseFault
     requires { length text.now < 2 ^ 32 }
-    ensures { spec.Explains result text.now all.now.places all.now.lexemes error }
+    ensures { spec.Explains result text.now all.now.places all.now.lexemes error.entry }
 {
     match error {
         ParseError::At(rest) => fault_at(text, all, rest),
