@@ -2,8 +2,8 @@
 use Rattle.std.specs.Prelude.{ℕ, Bool, true, false, if◌then◌else◌, nat_lt, List, [], ◌∷◌, ◌++◌, length, Option, Some, None}
 use Rattle.grammars.specs.Grammar.{Grammar, give, must, may, part, many}
 use Rattle.grammars.specs.Lists.{separated}
-use Rattle.run_spec.specs.declared.commits.Mode.{Mode}
-use Rattle.run_spec.specs.declared.commits.Mode.TheVariants as mode
+use Rattle.engine_spec.specs.declared.commits.Mode.{Mode}
+use Rattle.engine_spec.specs.declared.commits.Mode.TheVariants as mode
 use Rattle.sql_lexemes.specs.declared.lexeme.Symbol.TheVariants as sign
 use Rattle.sql_lexemes.specs.declared.lexeme.Word.TheVariants as word
 use Rattle.sql_lexemes.specs.declared.lexeme.Lexeme.{Lexeme}

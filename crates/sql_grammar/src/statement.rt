@@ -2,7 +2,7 @@
 use crate::expr::{Expr, Exprs};
 use crate::table::{Column, Use};
 use disk_face::Txt;
-use run_spec::Mode;
+use engine_spec::Mode;
 use sqlite_items::Items;
 
 /// A statement.

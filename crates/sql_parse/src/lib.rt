@@ -8,7 +8,7 @@ mod select;
 mod statement;
 mod text;
 
-pub use run_spec::Mode;
+pub use engine_spec::Mode;
 pub use sql_grammar::{
     Affinity, Column, Created, Expr, Exprs, Function, Named, Op, Select, Set, Sort, Statement, Use,
 };

@@ -7,7 +7,7 @@ ghost use Rattle.sql_exprs.specs.Gives.{Gives};
 
 use crate::change::{created, delete, dropped, insert, update};
 use crate::select::select;
-use run_spec::Mode;
+use engine_spec::Mode;
 use sql_exprs::{ParseError, after, after_word, after_word_if, expect};
 use sql_grammar::Statement;
 use sql_lexemes::{Lexeme, Symbol, Word};
