@@ -54,13 +54,17 @@ refuses_under : (opened opened_then : Opening → Type 0) → ((one : Opening) �
     (asked : Submitted) (after : EngineState) → Refuses opened_then before asked fault.Disk after
     → Refuses opened before asked fault.Disk after
 refuses_under opened opened_then keeps before asked after (clear, rose, inl read) = (clear, rose, inl read)
-refuses_under opened opened_then keeps before asked after (clear, rose, inr stops) = (clear, rose, inr (record {
-  stop = stops.stop;
-  map = stops.map;
-  place = stops.place;
-  moments = at_under opened opened_then keeps _ before.disk after.disk stops.moments;
-  after_is = stops.after_is;
-}))
+refuses_under opened opened_then keeps before asked after (clear, rose, inr stops) = (
+  clear,
+  rose,
+  inr (record {
+    stop = stops.stop;
+    map = stops.map;
+    place = stops.place;
+    moments = at_under opened opened_then keeps _ before.disk after.disk stops.moments;
+    after_is = stops.after_is;
+  }),
+)
 
 fails_under : (opened opened_then : Opening → Type 0) → ((one : Opening) → opened one → opened_then one) → (before after : EngineState)
     → FailsInStep opened_then before after → FailsInStep opened before after

@@ -364,8 +364,7 @@ done_acts engine session ordinal old new receipt done fresh freed none none_free
       ordinal = ordinal;
     } in
     let bare : asked fresh freed ≡ submitted_of before session old =
-    ap (λ (fresh : List PageImage). asked fresh freed) none ∙ (ap (asked []) none_freed ∙ asked_is before session ordinal old new after moves) in
-    (
+    ap (λ (fresh : List PageImage). asked fresh freed) none ∙ (ap (asked []) none_freed ∙ asked_is before session ordinal old new after moves) in (
       (
         found.0,
         found.1,
