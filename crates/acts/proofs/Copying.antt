@@ -1,8 +1,6 @@
 -- How steps of a checkpoint follow one another.
 use Rattle.std.proofs.Common.{◌≡◌, ℕ, ◌<◌, ◌≤◌, true, sym, List, [], Option, Some, None, subst, ap, ◌∙◌, arith}
 use Rattle.std.specs.Prelude.{IfSome}
-use Rattle.page_spec.specs.PageMap.{PageMap}
-use Rattle.engine_spec.specs.declared.pins.Pin.{Pin}
 use Rattle.crash_spec.specs.Opening.{Opening}
 use Rattle.engine_spec.specs.declared.pins.Readers.{Readers}
 use Rattle.engine_spec.specs.declared.commits.Commit.{Commit}

@@ -1,9 +1,8 @@
 -- How the pins of all sessions are given back, one after another.
-use Rattle.std.proofs.Common.{◌≡◌, ℕ, ◌+◌, ◌<◌, List, [], ◌∷◌, ◌++◌, length, get_or, drop, Option, suc, sym, subst, ap, ◌∙◌, arith, inl, inr, drop-cons}
+use Rattle.std.proofs.Common.{◌≡◌, ℕ, ◌+◌, ◌<◌, List, [], ◌∷◌, ◌++◌, length, get_or, drop, suc, sym, subst, ap, ◌∙◌, arith, inl, inr, drop-cons}
 use Rattle.std.specs.Prelude.{Contains}
 use Rattle.std.proofs.lemmas.List.{get_or_default}
 use Rattle.std.proofs.lemmas.List.Elements.{Contains-append_left, Contains-append_right, Contains-append_cases}
-use Rattle.page_spec.specs.PageMap.{PageMap}
 use Rattle.engine_spec.specs.declared.pins.Pin.{Pin}
 use Rattle.engine_spec.specs.State.{EngineState}
 use Rattle.page_face.specs.declared.engine_tells.EngineTells.{Ghosts}

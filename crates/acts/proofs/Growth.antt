@@ -29,7 +29,7 @@ use Rattle.acts.specs.declared.seats.Seat.{Seat}
 use Rattle.acts.specs.declared.seats.State.{State}
 use Rattle.acts.specs.declared.seats.State.TheVariants.{Out, Open, Refused}
 use Rattle.acts.specs.declared.seats.Transaction.{Transaction}
-use Rattle.acts.specs.Pagers.{Between, Refuses, Acts, BeginActs, ReadActs, ReadOpen, WriteActs, CommitActs, CommitOpen, RollbackActs, StepActs, Copies, Grew, EndsAll, Plays, pins_of, state_of, submitted_of}
+use Rattle.acts.specs.Pagers.{Refuses, Acts, BeginActs, ReadActs, ReadOpen, WriteActs, CommitActs, CommitOpen, RollbackActs, StepActs, Copies, Grew, EndsAll, Plays, pins_of, state_of, submitted_of}
 use Rattle.engine_spec.specs.Change.{image_of}
 
 -- What was promised for some openings is promised for fewer.

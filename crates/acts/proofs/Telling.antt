@@ -1,5 +1,5 @@
 -- What an engine tells after its own calls, where it is alone.
-use Rattle.std.proofs.Common.{◌≡◌, ◌∙◌, ℕ, ◌+◌, ◌*◌, ◌^◌, ◌<◌, ◌≤◌, List, [], ◌∷◌, ◌++◌, length, map, refl, sym, ap, subst, inl, inr, arith, rules, get_or, length-append, eqb, eqb-true, true, false, Bool, cond, ◌&&◌, is_some}
+use Rattle.std.proofs.Common.{◌≡◌, ◌∙◌, ℕ, ◌+◌, ◌*◌, ◌<◌, ◌≤◌, List, [], ◌∷◌, ◌++◌, length, map, refl, sym, ap, subst, inl, inr, arith, rules, get_or, length-append, eqb, eqb-true, true, false, Bool, cond, ◌&&◌, is_some}
 use Rattle.std.specs.Prelude.{Option, Some, None, Contains, All}
 use Rattle.std.specs.Option.{option_map}
 use Rattle.std.specs.List.{IsDistinct, list_any}

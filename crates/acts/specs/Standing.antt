@@ -1,5 +1,5 @@
 -- An engine under page lines, and the sessions over it, stand at a world: what they hold is what a run over whole page maps holds.
-use Rattle.std.specs.Prelude.{◌≡◌, ℕ, ◌+◌, ◌<◌, List, [], length, slice_get, Option, Some, None}
+use Rattle.std.specs.Prelude.{◌≡◌, ℕ, ◌+◌, ◌<◌, List, [], length, Option, Some, None}
 use Rattle.std.specs.List.{slice_index_or}
 use Rattle.page_spec.specs.PageMap.{PageMap, page_size_of}
 use Rattle.engine_spec.specs.declared.pins.Pin.{Pin}
@@ -12,7 +12,7 @@ use Rattle.acts.specs.declared.seats.Seat.{Seat}
 use Rattle.acts.specs.declared.seats.State.{State}
 use Rattle.acts.specs.declared.seats.State.TheVariants as seat
 use Rattle.acts.specs.declared.seats.Transaction.{Transaction}
-use Rattle.acts.specs.Pagers.{state_of, begun_of, pins_of, AreSound}
+use Rattle.acts.specs.Pagers.{state_of, begun_of}
 
 -- The engine tells of the last of these maps, which is a page store, and of these commits. No write of a log failed.
 pub record TellsOf (seen : EngineState) (maps : List PageMap) (history : List Commit) : Type 0 where

@@ -214,24 +214,24 @@ fn left_in(source: &mut MemSource) -> usize {
     left
 }
 
-/// Twelve lines of eight bytes, of whose replies the one with this number fails. The source gives so many lines at once, and has to
-/// have given no more lines than these when it comes to that reply.
+/// Twelve lines of eight bytes, of whose replies the one with this number fails. The source gives a piece of so many bytes at once, and
+/// has to have so many left when it comes to that reply.
 fn order(
     rt: &impl Abort,
     alloc: Global,
-    lines: usize,
+    piece: usize,
     fails: u64,
-    given: usize,
+    left: usize,
 ) -> Result<(), Fail> {
     let mut script = Vec::new(alloc);
     for _ in 0..12 {
         script.extend_from_slice(b"0: STEP\n")?;
     }
-    let mut source = MemSource::new(script, (8 * lines).max(1), None);
+    let mut source = MemSource::new(script, piece.max(1), None);
     let mut sink = MemSink::new(alloc, 64, Some(fails));
     let status = run_over(alloc, b"pages", &mut source, &mut sink)?;
     assert_eq!(rt; status, 4);
-    assert_eq!(rt; left_in(&mut source), 96 - 8 * given);
+    assert_eq!(rt; left_in(&mut source), left);
     Ok(())
 }
 
@@ -239,12 +239,12 @@ fn order(
 /// source gave at once, all are answered before it is asked again.
 #[test]
 fn replies_before_lines(rt: HostRuntime) -> Result<(), Fail> {
-    order(&rt, rt.alloc(), 1, 1, 1)?;
-    order(&rt, rt.alloc(), 1, 2, 2)?;
-    order(&rt, rt.alloc(), 1, 12, 12)?;
-    order(&rt, rt.alloc(), 2, 3, 4)?;
-    order(&rt, rt.alloc(), 3, 3, 3)?;
-    order(&rt, rt.alloc(), 3, 4, 6)
+    order(&rt, rt.alloc(), 8, 1, 88)?;
+    order(&rt, rt.alloc(), 8, 2, 80)?;
+    order(&rt, rt.alloc(), 8, 12, 0)?;
+    order(&rt, rt.alloc(), 16, 3, 64)?;
+    order(&rt, rt.alloc(), 24, 3, 72)?;
+    order(&rt, rt.alloc(), 24, 4, 48)
 }
 
 /// A transaction that reads and writes all pages, and reads them again.

@@ -21,7 +21,7 @@ use Rattle.engine_spec.specs.History.{conflict, first_writer, or_others}
 use Rattle.disk_face.specs.Faults.{one_more}
 use Rattle.page_lines.specs.Range.{IsInRange, AreInRange}
 use Rattle.engine_spec.specs.Written.{commit_of}
-use Rattle.page_lines.specs.World.{World, Outcome, SessionState, Out, Open, Refused, Transaction, changed_at, map_number, newest_map, shown, reads_with, read, write, change_of, submitted, commit_in, pages_written, moved, committed, decided, begin_step, read_step, write_step, commit_step, rollback_step, step, answers_to, after, world_over}
+use Rattle.page_lines.specs.World.{World, Outcome, SessionState, Out, Open, Refused, Transaction, changed_at, map_number, newest_map, shown, reads_with, read, write, change_of, commit_in, pages_written, moved, committed, decided, begin_step, read_step, write_step, commit_step, rollback_step, step, answers_to, after, world_over}
 use Rattle.page_lines.specs.Alike.{AreAlike, AreAlikeWorlds, BeganSince, AreAlikeSince}
 use Rattle.engine_spec.proofs.Laying.{laid-put, laid-at, put_pages-other, stamped-length}
 use Rattle.page_lines.proofs.GoodLines.{lines_whole, first_absent}

@@ -14,7 +14,7 @@ use Rattle.page_lines.specs.PageLines.{AreImages}
 use Rattle.engine_spec.specs.Change.{laid}
 use Rattle.engine_spec.specs.History.{conflict}
 use Rattle.page_lines.specs.Range.{IsInRange}
-use Rattle.page_lines.specs.World.{World, SessionState, Out, Open, Refused, Transaction, changed_at, newest_map, shown, change_of, submitted, commit_in, moved, committed, decided, commit, begin_step, read_step, write_step, commit_step, rollback_step, step}
+use Rattle.page_lines.specs.World.{World, SessionState, Out, Open, Refused, Transaction, changed_at, newest_map, shown, change_of, commit_in, moved, committed, decided, commit, begin_step, read_step, write_step, commit_step, rollback_step, step}
 use Rattle.page_lines.specs.Exchanges.{Exchange, Accepted, snapshot_of, transaction_of}
 use Rattle.page_lines.proofs.Transactions.{none_are, with_image-are}
 use Rattle.page_lines.proofs.Alone.{IsStore}

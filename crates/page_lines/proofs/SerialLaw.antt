@@ -1,12 +1,12 @@
 -- What each world of page lines keeps, with the past that led to it: whatever page lines are run, the committed transactions were told
 -- what they would have been told one after another, and all others what they would have been told alone on their snapshot.
-use Rattle.std.proofs.Common.{◌≡◌, ℕ, ◌+◌, ◌-◌, ◌<◌, ◌≤◌, Bool, true, false, cond, eqb, eq-eqb, List, [], ◌∷◌, ◌++◌, length, drop, replicate, get_or, Option, Some, None, zero, suc, refl, sym, subst, ap, ◌∙◌, inl, inr, arith, length-append, length-drop, add-zero}
+use Rattle.std.proofs.Common.{◌≡◌, ℕ, ◌+◌, ◌-◌, ◌<◌, ◌≤◌, Bool, true, false, cond, eq-eqb, List, [], ◌∷◌, ◌++◌, length, drop, replicate, get_or, Option, Some, None, zero, suc, refl, sym, subst, ap, ◌∙◌, inl, inr, arith, length-append, length-drop, add-zero}
 use Rattle.std.specs.Prelude.{Contains, All, slice_get, slice_index}
 use Rattle.std.specs.List.{list_any, slice_index_or}
 use Rattle.std.proofs.lemmas.Bool.{or_parts, cases_lt, cases_eq, ne_eqb}
 use Rattle.std.proofs.lemmas.Option.{slice_get-get_or, get_or_from_slice_get, slice_get_within}
 use Rattle.std.proofs.lemmas.List.{get_or_append_left, get_or-drop, length-replicate}
-use Rattle.std.proofs.lemmas.List.Elements.{All-append, All-cons, All-head, All-tail, All-nil, All-replicate}
+use Rattle.std.proofs.lemmas.List.Elements.{All-append, All-cons, All-nil, All-replicate}
 use Rattle.page_spec.specs.PageMap.{PageMap, page_at, page_size_of, page_sizes, Agree}
 use Rattle.engine_spec.specs.declared.commits.Commit.{Commit}
 use Rattle.engine_spec.specs.declared.commits.Mode.{Mode}
@@ -20,11 +20,10 @@ use Rattle.page_lines.specs.PageLines.{AreImages, ReadPage, WritePage, read_text
 use Rattle.engine_spec.specs.Change.{laid}
 use Rattle.engine_spec.specs.History.{counts, is_written, conflict, NoConflict}
 use Rattle.page_lines.specs.World.{World, SessionState, Out, Open, Refused, Transaction, changed_at, map_number, newest_map, change_of, submitted, commit_in, pages_written, shown, reads_with, moved, committed, decided, commit, begin_step, read_step, write_step, commit_step, rollback_step, step, Outcome, world_over, zeros}
-use Rattle.page_lines.specs.Range.{IsInRange, AreInRange}
-use Rattle.page_lines.specs.Exchanges.{Exchange, Accepted, is_begin, is_commit, commits_in, snapshot_of, accepted, with_last, transaction_of}
-use Rattle.page_lines.specs.Serial.{IsToldAlone, IsSerialCommit, statements_in}
+use Rattle.page_lines.specs.Range.{IsInRange}
+use Rattle.page_lines.specs.Exchanges.{Exchange, Accepted, is_begin, is_commit, commits_in, snapshot_of, accepted, transaction_of}
+use Rattle.page_lines.specs.Serial.{IsToldAlone, statements_in}
 use Rattle.page_lines.specs.Legal.{IsLegalCommit, IsLegalFrom}
-use Rattle.engine_spec.proofs.Conflicts.{no_conflict}
 use Rattle.page_lines.proofs.OneMore.{found_at, front_of, last_of, first_stays}
 use Rattle.page_lines.proofs.Ordinals.{ArePast, AreOrdinals, ordinals_moved, ordinals_begun, ordinals_committed, ordinals_none}
 use Rattle.engine_spec.proofs.Laying.{laid-page_size, laid-at, agree_refl, agree_trans, agree_laid}

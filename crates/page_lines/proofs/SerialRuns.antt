@@ -1,5 +1,5 @@
 -- Each run of page lines over a page store is serial, and the history that it leaves is legal.
-use Rattle.std.proofs.Common.{◌≡◌, ℕ, ◌+◌, ◌-◌, ◌<◌, ◌≤◌, Bool, true, false, cond, List, [], ◌∷◌, ◌++◌, length, get_or, Option, Some, None, zero, suc, refl, sym, subst, ap, ◌∙◌, arith, length-append, append_assoc}
+use Rattle.std.proofs.Common.{◌≡◌, ℕ, ◌+◌, ◌-◌, ◌<◌, ◌≤◌, Bool, true, false, cond, List, [], ◌∷◌, ◌++◌, length, Option, Some, None, zero, suc, refl, sym, subst, ap, ◌∙◌, arith, length-append, append_assoc}
 use Rattle.std.specs.Prelude.{slice_get, reverse, take}
 use Rattle.std.specs.List.{slice_index_or}
 use Rattle.std.proofs.lemmas.List.{get_or_append_left, get_or_push, append-nil, reverse-append}
@@ -8,7 +8,6 @@ use Rattle.std.proofs.lemmas.Bool.{false≢true}
 use Rattle.std.proofs.lemmas.Option.{none-some, same_Some}
 use Rattle.page_spec.specs.PageMap.{PageMap, page_at}
 use Rattle.engine_spec.specs.declared.commits.Mode.TheVariants.{Concurrent}
-use Rattle.engine_spec.specs.declared.commits.Receipt.{Receipt}
 use Rattle.engine_spec.specs.declared.commits.Receipt.TheVariants.{At, ReadOnly}
 use Rattle.engine_spec.specs.Change.{laid}
 use Rattle.engine_spec.specs.History.{conflict}
@@ -18,7 +17,7 @@ use Rattle.page_lines.specs.declared.lines.Act.TheVariants as act
 use Rattle.page_lines.specs.declared.lines.Told.{Told}
 use Rattle.page_lines.specs.declared.lines.Told.TheVariants as told
 use Rattle.page_lines.specs.PageLines.{page_after}
-use Rattle.page_lines.specs.World.{World, SessionState, Out, Open, Refused, Transaction, Outcome, newest_map, map_number, change_of, moved, committed, decided, begin_step, read_step, write_step, commit_step, rollback_step, step, after, world_over, zeros, start}
+use Rattle.page_lines.specs.World.{World, SessionState, Out, Open, Refused, Transaction, newest_map, map_number, change_of, moved, decided, begin_step, read_step, write_step, commit_step, rollback_step, step, after, world_over, zeros, start}
 use Rattle.page_lines.specs.Range.{IsInRange, AreInRange}
 use Rattle.page_lines.specs.Exchanges.{Exchange, Accepted, exchanges, past_of, is_commit, commits_in, snapshot_of, transaction_of}
 use Rattle.page_lines.specs.Serial.{IsToldAlone, IsSerialCommit, IsSerial, statements_in}

@@ -1,6 +1,6 @@
 -- What the history of a run of page lines amounts to: each commit leads from one map to the next.
-use Rattle.std.specs.Prelude.{◌≡◌, ℕ, ◌+◌, ◌-◌, ◌^◌, ◌<◌, ◌≤◌, List, length, map, slice_get, Some}
-use Rattle.page_spec.specs.PageMap.{PageMap, page_at}
+use Rattle.std.specs.Prelude.{◌≡◌, ℕ, ◌+◌, ◌-◌, ◌^◌, ◌<◌, ◌≤◌, length, slice_get, Some}
+use Rattle.page_spec.specs.PageMap.{PageMap}
 use Rattle.engine_spec.specs.declared.commits.Commit.{Commit}
 use Rattle.page_lines.specs.PageLines.{PageLinesLead}
 use Rattle.page_lines.specs.World.{World}

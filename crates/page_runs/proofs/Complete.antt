@@ -7,7 +7,7 @@ use Rattle.disk_face.specs.declared.sink.Sink as sinks
 use Rattle.page_runs.specs.declared.status.Status.{Status}
 use Rattle.page_runs.specs.declared.status.Status.TheVariants as ended
 use Rattle.page_runs.specs.Status.{code_of}
-use Rattle.page_runs.specs.Outcome.{Ran, RunEnds, status_of}
+use Rattle.page_runs.specs.Outcome.{RunEnds, status_of}
 
 -- of any memory at all
 any_script : (left : Option (List ℕ)) (P : List ℕ → Type 0) → ((script : List ℕ) → P script) → IfSome left P

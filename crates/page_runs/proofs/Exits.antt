@@ -1,5 +1,5 @@
 -- How a run ends, from where it stands in its script.
-use Rattle.std.proofs.Common.{◌≡◌, ◌≢◌, ℕ, ◌+◌, true, false, cond, List, [], ◌∷◌, ◌++◌, length, length-append, take, Option, Some, None, IfSome, Contains, refl, sym, ap, ◌∙◌, subst, arith, inl, inr, ◌⊎◌}
+use Rattle.std.proofs.Common.{◌≡◌, ◌≢◌, ℕ, ◌+◌, true, false, cond, List, [], ◌∷◌, ◌++◌, length, length-append, take, Option, Some, None, IfSome, refl, sym, ap, ◌∙◌, subst, arith, inl, inr, ◌⊎◌}
 use Rattle.std.specs.List.{filter_map, cons_option, concat}
 use Rattle.std.proofs.lemmas.List.{take_at, append-nil}
 use Rattle.std.proofs.lemmas.List.Folds.{concat-append}
@@ -11,11 +11,8 @@ use Rattle.disk_face.specs.declared.sink.Sink as sinks
 use Rattle.page_lines.specs.declared.lines.Act.{Act}
 use Rattle.page_lines.specs.Reply.{reply_text, session_of}
 use Rattle.page_lines.specs.World.{World, step, start, after}
-use Rattle.script.specs.declared.grammar.Act2.TheVariants as page
 use Rattle.script.specs.declared.grammar.Form.TheVariants.{Pages}
 use Rattle.script.specs.declared.grammar.Line.{Line}
-use Rattle.script.specs.declared.grammar.Line.TheVariants as line
-use Rattle.script.specs.Line.{Spells}
 use Rattle.script.specs.Reading.{line_of}
 use Rattle.script.specs.Raw.{HasNoEnd, raw_lines, is_within, text_of_raw}
 use Rattle.script.proofs.Lines.{concat-raw_lines}
@@ -24,9 +21,8 @@ use Rattle.page_runs.specs.declared.status.Status.TheVariants as ended
 use Rattle.page_runs.specs.declared.lines.Next.{Next}
 use Rattle.page_runs.specs.declared.lines.Next.TheVariants as next
 use Rattle.page_runs.specs.InMemory.{Memory, IsAt}
-use Rattle.page_lines.specs.Range.{IsInRange}
 use Rattle.page_runs.specs.Reading.{Reading, script_left, WhereTold, Advances}
-use Rattle.page_runs.specs.Outcome.{act_in, acts_in, replies, line_in, lines_run, is_refused, refused_text, text_of, status_of, source_failed, cut_text, PutsFront, IsCut, Ran, RunEnds, SaysLast}
+use Rattle.page_runs.specs.Outcome.{act_in, acts_in, replies, line_in, lines_run, is_refused, refused_text, text_of, source_failed, cut_text, PutsFront, IsCut, Ran, RunEnds, SaysLast}
 use Rattle.page_runs.specs.Status.{code_of, Blames}
 use Rattle.page_runs.proofs.Written.{Puts-more}
 use Rattle.page_runs.proofs.Fronts.{PutsFront-after, Puts-nothing}

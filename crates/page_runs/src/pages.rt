@@ -9,10 +9,10 @@ ghost use Rattle.page_runs.specs.declared.status.Status.TheVariants as status;
 ghost use Rattle.page_runs.specs.Outcome.{act_in, acts_in, page_act, replies, refused_text, PutsFront, RunEnds, SaysLast};
 ghost use Rattle.page_runs.specs.Reply.{CountsReply};
 
-use crate::{InMemory, Status};
 use crate::lines::{LineReader, Next};
 use crate::output::{say_last, write_all};
 use crate::reply::{refused_line, told_text};
+use crate::{InMemory, Status};
 use disk_face::{Failed, Sink, Source};
 use page_lines::Act;
 use script::{Act2, Form, Line, line_text, read_line};

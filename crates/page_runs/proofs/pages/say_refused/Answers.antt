@@ -1,4 +1,4 @@
-use Rattle.std.proofs.Common.{subst, ap, sym, ◌∙◌, ◌++◌, inl}
+use Rattle.std.proofs.Common.{subst, ap, ◌∙◌, ◌++◌, inl}
 use Rattle.page_runs.specs.declared.status.Status.TheVariants as ended
 use Rattle.page_runs.specs.Outcome.{refused_text, SaysLast}
 use Rattle.page_runs.proofs.pages.say_refused.Goals as goal

@@ -1,4 +1,4 @@
-use Rattle.std.proofs.Common.{◌∙◌, ap, refl, false}
+use Rattle.std.proofs.Common.{ap, refl, false}
 use Rattle.engine_spec.specs.declared.commits.Mode.TheVariants.{Concurrent}
 use Rattle.page_lines.specs.contracts.raw.RawMeans.TheImpl.{ghosts}
 use Rattle.page_face.specs.declared.prepared.Prepared.{Prepared}
