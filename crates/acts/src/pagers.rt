@@ -10,7 +10,7 @@ ghost use Rattle.acts.specs.Pagers.{Acts, AreSound, between, EndsAll, pins_of};
 ghost use Rattle.acts.specs.Turns.{act_of, SwapsPins};
 
 use crate::seats::{Seat, State};
-use crate::turns::{Deed, begin_again, begin_out, copy, end_one, logs, step, turn};
+use crate::turns::{Deed, Room, copy, logs, step};
 use page_face::Engine;
 use page_lines::{Act, Raw, Told};
 use std::alloc::{AllocError, Global};
@@ -19,9 +19,8 @@ use std::marker::Model;
 /// The sessions that act on an engine's pages by page lines. A contract sees the list of their seats.
 #[derive(Drop)]
 pub struct Pagers {
-    alloc: Global,
+    room: Room,
     seats: Vec<Seat>,
-    buf: Vec<u8>,
 }
 
 impl Model for Pagers {
@@ -39,9 +38,11 @@ impl Pagers {
         ensures { result ≡ [] }
     {
         Pagers {
-            alloc,
+            room: Room {
+                alloc,
+                buf: Vec::new(alloc),
+            },
             seats: Vec::new(alloc),
-            buf: Vec::new(alloc),
         }
     }
 
@@ -75,7 +76,7 @@ impl Pagers {
         ensures opened { KeepsOpenings E.EngineTells engine.old engine.new }
         ensures loans { E.loans engine.new ≡ E.loans engine.old }
     {
-        act_on(self.alloc, &mut self.seats, &mut self.buf, engine, act)
+        act_on(&mut self.room, &mut self.seats, engine, act)
     }
 
     /// Rolls back what is still open, session by session.
@@ -95,16 +96,15 @@ fn end_all<E: Engine<Raw>>(seats: &[Seat], engine: &mut E)
     ensures stays { SwapsPins E.EngineTells engine.old (pins_of seats.now) engine.new [] }
 {
     for seat in seats {
-        end_one(&seat.state, engine);
+        seat.state.end(engine);
     }
 }
 
 // An act over the list of seats.
 #[tactic(auto, using(crate::proofs::Outcomes::still))]
 fn act_on<E: Engine<Raw>>(
-    alloc: Global,
+    room: &mut Room,
     seats: &mut Vec<Seat>,
-    buf: &mut Vec<u8>,
     engine: &mut E,
     act: Act,
 ) -> Result<Told, AllocError>
@@ -120,31 +120,15 @@ fn act_on<E: Engine<Raw>>(
     ensures stays { SwapsPins E.EngineTells engine.old (pins_of seats.old.items) engine.new (pins_of seats.new.items) }
 {
     match act {
-        Act::Begin { session } => begin(alloc, seats, engine, session),
-        Act::Read { session, page } => in_seat(
-            alloc,
-            seats,
-            buf,
-            engine,
-            session,
-            Deed::Read { page },
-        ),
+        Act::Begin { session } => begin(room.alloc, seats, engine, session),
+        Act::Read { session, page } => in_seat(room, seats, engine, session, Deed::Read { page }),
         Act::Write {
             session,
             page,
             byte,
-        } => {
-            in_seat(
-                alloc,
-                seats,
-                buf,
-                engine,
-                session,
-                Deed::Write { page, byte },
-            )
-        }
-        Act::Commit { session } => in_seat(alloc, seats, buf, engine, session, Deed::Commit),
-        Act::Rollback { session } => in_seat(alloc, seats, buf, engine, session, Deed::Rollback),
+        } => { in_seat(room, seats, engine, session, Deed::Write { page, byte }) }
+        Act::Commit { session } => in_seat(room, seats, engine, session, Deed::Commit),
+        Act::Rollback { session } => in_seat(room, seats, engine, session, Deed::Rollback),
         Act::Copy => Ok(copy(engine)),
         Act::Step => Ok(step(engine)),
         Act::Logs => Ok(logs(engine)),
@@ -161,9 +145,8 @@ fn place_of(seats: &[Seat], session: u32) -> Option<usize>
 // Does what is asked of a session's transaction.
 #[tactic(auto, using(crate::proofs::Outcomes::still))]
 fn in_seat<E: Engine<Raw>>(
-    alloc: Global,
+    room: &mut Room,
     seats: &mut Vec<Seat>,
-    buf: &mut Vec<u8>,
     engine: &mut E,
     session: u32,
     deed: Deed,
@@ -179,7 +162,7 @@ fn in_seat<E: Engine<Raw>>(
 {
     match place_of(seats.as_slice(), session) {
         None => Ok(Told::NoTransaction),
-        Some(at) => turn(alloc, buf, engine, &mut seats[at], deed),
+        Some(at) => seats[at].turn(engine, deed, room),
     }
 }
 
@@ -201,7 +184,7 @@ fn begin<E: Engine<Raw>>(
     ensures stays { SwapsPins E.EngineTells engine.old (pins_of seats.old.items) engine.new (pins_of seats.new.items) }
 {
     match place_of(seats.as_slice(), session) {
-        Some(at) => Ok(begin_again(alloc, engine, &mut seats[at])),
+        Some(at) => Ok(seats[at].begin_again(engine, alloc)),
         None => {
             let at = seats.len();
             seats.push(Seat {
@@ -209,7 +192,7 @@ fn begin<E: Engine<Raw>>(
                 begun: 0,
                 state: State::Out,
             })?;
-            begin_out(alloc, engine, &mut seats[at]);
+            seats[at].begin_out(engine, alloc);
             Ok(Told::Ok)
         }
     }
