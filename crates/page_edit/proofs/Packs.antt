@@ -1,5 +1,5 @@
 -- Cells moved to the end of a page, and a page that lost a pointer.
-use Rattle.std.proofs.Common.{◌≡◌, ℕ, zero, suc, ◌+◌, ◌-◌, ◌*◌, ◌%◌, ◌<◌, ◌≤◌, List, [], ◌∷◌, length, get_or, remove, take, sum_by, All, refl, sym, ap, subst, ◌∙◌, inl, inr, arith, ◌⊎◌}
+use Rattle.std.proofs.Common.{◌≡◌, ℕ, zero, suc, ◌+◌, ◌-◌, ◌*◌, ◌%◌, ◌<◌, ◌≤◌, List, [], ◌∷◌, length, get_or, remove, take, All, refl, sym, ap, subst, ◌∙◌, inl, inr, arith, ◌⊎◌}
 use Rattle.std.proofs.lemmas.List.{take_all}
 use Rattle.std.proofs.lemmas.List.Edits.{length-remove}
 use Rattle.std.proofs.lemmas.List.Sums.{sum_by-remove, sum_by-cons, sum_by-take-le, sum_by_more}
@@ -11,7 +11,6 @@ use Rattle.page_spec.proofs.BytesLaws.{u16_at-above}
 use Rattle.node_spec.specs.Cells.{IsCell}
 use Rattle.node_spec.specs.Layout.{Piece, nowhere, hit, cover, size_of, taken, Stands, HasCells, IsPage, content_start}
 use Rattle.node_spec.specs.declared.kinds.Kind.{Kind}
-use Rattle.node_spec.specs.Kinds.{flag_of}
 use Rattle.node_spec.specs.Cells.{cell_size}
 use Rattle.node_spec.specs.Faults.{rest_at}
 use Rattle.node_spec.proofs.CellLaws.{cell_stands}

@@ -9,7 +9,6 @@ use Rattle.page_spec.proofs.BytesLaws.{u16_at-below, u16_at-above}
 use Rattle.node_spec.specs.Cells.{IsCell}
 use Rattle.node_spec.specs.Layout.{Piece, nowhere, hit, cover, size_of, taken, Stands, HasCells, IsPage, IsChain, content_start}
 use Rattle.node_spec.specs.declared.kinds.Kind.{Kind}
-use Rattle.node_spec.specs.Kinds.{flag_of}
 use Rattle.node_spec.proofs.PieceLaws.{stands-kept, hit_most, hit_none, cover_none}
 use Rattle.page_edit.specs.Forms.{AddsPointer, KeepsRest}
 use Rattle.page_edit.specs.declared.form.Form.{Form}

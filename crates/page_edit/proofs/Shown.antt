@@ -1,5 +1,5 @@
 -- From the texts of cells to the node that a page shows, and back.
-use Rattle.std.proofs.Common.{◌≡◌, ℕ, suc, ◌+◌, ◌-◌, ◌*◌, ◌<◌, ◌≤◌, Some, Bool, true, false, List, [], ◌∷◌, length, get_or, map, sum_by, insert, remove, refl, sym, ap, subst, ◌∙◌, arith, append-nil}
+use Rattle.std.proofs.Common.{◌≡◌, ℕ, ◌+◌, ◌-◌, ◌<◌, ◌≤◌, Some, Bool, true, false, List, [], ◌∷◌, length, get_or, map, insert, remove, refl, sym, ap, subst, ◌∙◌, arith, append-nil}
 use Rattle.std.proofs.Common.{Result, Ok, Err, OnOk, IfErr, if◌then◌else◌}
 use Rattle.page_spec.specs.Bytes.{DiffersOnlyWithin}
 use Rattle.page_spec.proofs.BytesLaws.{u16_at-below}
@@ -14,7 +14,7 @@ use Rattle.node_spec.specs.declared.kinds.Kind.TheVariants.{IndexInner, TableInn
 use Rattle.node_spec.specs.Kinds.{kind_of, header_at, pointers_at, is_leaf}
 use Rattle.node_spec.specs.Cells.{NodeCell, cell_in, IsCell, IsOneCell, padded}
 use Rattle.node_spec.specs.Layout.{Piece, IsPage}
-use Rattle.node_spec.specs.Nodes.{Node, Shows, node_of, right_in, cells_of, cell_bytes, free_of, with_cell, without_cell}
+use Rattle.node_spec.specs.Nodes.{Node, Shows, node_of, right_in, cells_of, free_of, with_cell, without_cell}
 use Rattle.node_spec.proofs.CellLaws.{padded_same}
 use Rattle.node_spec.proofs.Decode.{kind_flag}
 use Rattle.node_spec.proofs.NodeLaws.{node_shows, shows_node, shown_bytes}

@@ -1,4 +1,4 @@
-use Rattle.std.proofs.Common.{◌≡◌, subst, sym, refl, ◌∙◌, arith}
+use Rattle.std.proofs.Common.{subst}
 use Rattle.page_edit.specs.Forms.{IsPacked}
 use Rattle.page_edit.proofs.Shown.{shown_texts, edited, keeps_outside, holds_texts}
 use Rattle.page_edit.proofs.edit.pack.Goals as goal

@@ -1,4 +1,4 @@
-use Rattle.std.proofs.Common.{◌≡◌, ℕ, List, ◌+◌, ◌<◌, ◌≤◌, max, length, sym, ap, subst, ◌∙◌, arith}
+use Rattle.std.proofs.Common.{◌≡◌, ℕ, List, ◌+◌, ◌≤◌, max, length, ap, ◌∙◌, arith}
 use Rattle.node_spec.proofs.CellLaws.{length-padded}
 use Rattle.page_edit.proofs.Shown.{puts_text, put_shows, keeps_outside, on_ok, if_err, free_shown, long_cell}
 use Rattle.page_edit.proofs.edit.put_cell.Goals as goal

@@ -1,4 +1,4 @@
-use Rattle.std.proofs.Common.{◌≡◌, subst, arith}
+use Rattle.std.proofs.Common.{subst, arith}
 use Rattle.page_edit.specs.Forms.{IsPacked}
 use Rattle.page_edit.proofs.Shown.{shown_texts, take_shows, keeps_outside}
 use Rattle.page_edit.proofs.edit.take_cell.Goals as goal

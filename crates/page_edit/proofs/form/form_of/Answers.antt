@@ -1,6 +1,5 @@
 use Rattle.std.proofs.Common.{◌≡◌, get_or, sym, ap, ◌∙◌, Some, None, refl, arith}
 use Rattle.node_spec.specs.Kinds.{kind_of, pointers_at}
-use Rattle.node_spec.specs.declared.kinds.Kind.{Kind}
 use Rattle.page_edit.proofs.Shown.{shown_kind}
 use Rattle.page_edit.proofs.form.form_of.Goals as goal
 

@@ -1,7 +1,7 @@
-use Rattle.std.proofs.Common.{◌≡◌, ◌<◌, length, get_or, ◌∙◌, subst, refl, arith}
+use Rattle.std.proofs.Common.{◌≡◌, ◌<◌, length, ◌∙◌, subst, arith}
 use Rattle.node_spec.specs.Layout.{nowhere}
 use Rattle.page_edit.specs.Packing.{Moved}
-use Rattle.page_edit.proofs.Packs.{room_left, read_at, moved_more, moved_none}
+use Rattle.page_edit.proofs.Packs.{room_left, read_at, moved_more}
 use Rattle.page_edit.proofs.moving.move_cells.Goals as goal
 
 pub unreachable-requires : goal.unreachable-requires

@@ -1,6 +1,6 @@
-use Rattle.std.proofs.Common.{◌≡◌, [], length, sum_by, ◌∙◌, ap, sym, subst, arith}
+use Rattle.std.proofs.Common.{◌≡◌, [], length, sum_by, ◌∙◌, ap, sym, arith}
 use Rattle.std.proofs.lemmas.List.Sums.{sum_by-take-le}
-use Rattle.node_spec.specs.Layout.{HasCells, size_of}
+use Rattle.node_spec.specs.Layout.{size_of}
 use Rattle.page_edit.specs.Packing.{packed}
 use Rattle.page_edit.proofs.Lists.{taken-texts_of}
 use Rattle.page_edit.proofs.Packs.{has_alike, packed_page, texts_of-packed, moved_content, moved_count, packed_keeps}

@@ -1,4 +1,4 @@
-use Rattle.std.proofs.Common.{◌≡◌, ◌+◌, subst, get_or, arith}
+use Rattle.std.proofs.Common.{subst, arith}
 use Rattle.std.proofs.lemmas.Grind.{common_steps}
 use Rattle.page_spec.proofs.BytesLaws.{differs-set}
 use Rattle.page_edit.specs.Forms.{IsPacked}
