@@ -14,5 +14,3 @@ mod log_headers;
 mod log_scan;
 #[cfg(test)]
 mod stock_headers;
-#[cfg(test)]
-mod torn_headers;
