@@ -290,7 +290,10 @@ fn state(state: Use) -> &'static [u8] {
 
 fn object(out: &mut Vec<u8>, created: &Created) -> Result<(), AllocError> {
     match created {
-        Created::Table { state: found, columns: all } => {
+        Created::Table {
+            state: found,
+            columns: all,
+        } => {
             put(out, state(*found))?;
             columns(out, all.as_slice())
         }

@@ -71,18 +71,36 @@ fn nothing_and_other_bytes(rt: HostRuntime) -> Result<(), Fail> {
 #[test]
 fn create_table(rt: HostRuntime) -> Result<(), Fail> {
     let rows: [(&[u8], &[u8]); 38] = [
-        (b"CREATE TABLE t(a INTEGER PRIMARY KEY, b TEXT NOT NULL, c BLOB, d)", b"table t a:i:key b:t:some c:b d:b"),
-        (b"create table t (a integer not null primary key)", b"table t a:i:key:some"),
-        (b"CREATE TABLE t(a INTEGER PRIMARY KEY NOT NULL);", b"table t a:i:key:some"),
-        (b"CREATE TABLE \"select\"(\"a b\" TEXT)", b"table select a b:t"),
+        (
+            b"CREATE TABLE t(a INTEGER PRIMARY KEY, b TEXT NOT NULL, c BLOB, d)",
+            b"table t a:i:key b:t:some c:b d:b",
+        ),
+        (
+            b"create table t (a integer not null primary key)",
+            b"table t a:i:key:some",
+        ),
+        (
+            b"CREATE TABLE t(a INTEGER PRIMARY KEY NOT NULL);",
+            b"table t a:i:key:some",
+        ),
+        (
+            b"CREATE TABLE \"select\"(\"a b\" TEXT)",
+            b"table select a b:t",
+        ),
         (b"CREATE TABLE \"a\"\"b\"(c)", b"table a\"b c:b"),
         (b"CREATE TABLE t()", b"syntax 15"),
         (b"CREATE TABLE t(a,)", b"syntax 17"),
         (b"CREATE TABLE t(a TEXT PRIMARY KEY)", b"syntax 22"),
         (b"CREATE TABLE t(a PRIMARY KEY)", b"syntax 17"),
         (b"CREATE TABLE t(a INTEGER PRIMARY NOT NULL)", b"syntax 33"),
-        (b"CREATE TABLE t(a INTEGER PRIMARY KEY, b INTEGER PRIMARY KEY)", b"syntax 48"),
-        (b"CREATE TABLE t(a INTEGER PRIMARY KEY PRIMARY KEY)", b"syntax 37"),
+        (
+            b"CREATE TABLE t(a INTEGER PRIMARY KEY, b INTEGER PRIMARY KEY)",
+            b"syntax 48",
+        ),
+        (
+            b"CREATE TABLE t(a INTEGER PRIMARY KEY PRIMARY KEY)",
+            b"syntax 37",
+        ),
         (b"CREATE TABLE t(a NOT NULL NOT NULL)", b"syntax 26"),
         (b"CREATE TABLE t(a NOT 1)", b"syntax 21"),
         (b"CREATE TABLE t(a REAL)", b"syntax 17"),
@@ -90,7 +108,10 @@ fn create_table(rt: HostRuntime) -> Result<(), Fail> {
         (b"CREATE TABLE t(a INTEGER(5))", b"syntax 24"),
         (b"CREATE TABLE t(a TEXT TEXT)", b"syntax 22"),
         (b"CREATE TABLE t(a TEXT UNIQUE)", b"syntax 22"),
-        (b"CREATE TABLE t(a INTEGER PRIMARY KEY AUTOINCREMENT)", b"syntax 37"),
+        (
+            b"CREATE TABLE t(a INTEGER PRIMARY KEY AUTOINCREMENT)",
+            b"syntax 37",
+        ),
         (b"CREATE TABLE t(a \"INTEGER\")", b"syntax 17"),
         (b"CREATE TABLE sqlite_t(a)", b"syntax 13"),
         (b"CREATE TABLE SQLite_(a)", b"syntax 13"),
@@ -120,7 +141,10 @@ fn create_table(rt: HostRuntime) -> Result<(), Fail> {
 fn indexes_and_drop(rt: HostRuntime) -> Result<(), Fail> {
     let rows: [(&[u8], &[u8]); 20] = [
         (b"CREATE INDEX i ON t(a)", b"index i t a"),
-        (b"CREATE UNIQUE INDEX i ON t(a, \"b c\");", b"unique index i t a b c"),
+        (
+            b"CREATE UNIQUE INDEX i ON t(a, \"b c\");",
+            b"unique index i t a b c",
+        ),
         (b"CREATE INDEX i ON count(rowid)", b"index i count rowid"),
         (b"CREATE INDEX i ON t(a DESC)", b"syntax 22"),
         (b"CREATE INDEX i ON t()", b"syntax 20"),
@@ -130,8 +154,14 @@ fn indexes_and_drop(rt: HostRuntime) -> Result<(), Fail> {
         (b"CREATE INDEX i t(a)", b"syntax 15"),
         (b"CREATE INDEX ON t(a)", b"syntax 13"),
         (b"CREATE INDEX i ON t(a+1)", b"syntax 21"),
-        (b"CREATE INDEX i ON t(a,b,c,d,e,f,g,h,i,j,k,l,m,n,o,p)", b"index i t a b c d e f g h i j k l m n o p"),
-        (b"CREATE INDEX i ON t(a,b,c,d,e,f,g,h,i,j,k,l,m,n,o,p,q)", b"syntax 51"),
+        (
+            b"CREATE INDEX i ON t(a,b,c,d,e,f,g,h,i,j,k,l,m,n,o,p)",
+            b"index i t a b c d e f g h i j k l m n o p",
+        ),
+        (
+            b"CREATE INDEX i ON t(a,b,c,d,e,f,g,h,i,j,k,l,m,n,o,p,q)",
+            b"syntax 51",
+        ),
         (b"DROP TABLE t", b"drop t"),
         (b"drop table sqlite_t;", b"drop sqlite_t"),
         (b"DROP INDEX i", b"syntax 5"),
@@ -149,10 +179,22 @@ fn indexes_and_drop(rt: HostRuntime) -> Result<(), Fail> {
 #[test]
 fn insert(rt: HostRuntime) -> Result<(), Fail> {
     let rows: [(&[u8], &[u8]); 21] = [
-        (b"INSERT INTO t VALUES (1, 'a', NULL)", b"insert t row 1 'a' null"),
-        (b"INSERT INTO t(a, b) VALUES (1, 2), (3, 4)", b"insert t a b row 1 2 row 3 4"),
-        (b"INSERT INTO t VALUES (x'4142', X'', 'it''s')", b"insert t row `AB` `` 'it's'"),
-        (b"INSERT INTO count(a) VALUES (count)", b"insert count a row count"),
+        (
+            b"INSERT INTO t VALUES (1, 'a', NULL)",
+            b"insert t row 1 'a' null",
+        ),
+        (
+            b"INSERT INTO t(a, b) VALUES (1, 2), (3, 4)",
+            b"insert t a b row 1 2 row 3 4",
+        ),
+        (
+            b"INSERT INTO t VALUES (x'4142', X'', 'it''s')",
+            b"insert t row `AB` `` 'it's'",
+        ),
+        (
+            b"INSERT INTO count(a) VALUES (count)",
+            b"insert count a row count",
+        ),
         (b"INSERT INTO t VALUES (-1 + a);", b"insert t row ((-1)+a)"),
         (b"INSERT INTO t() VALUES (1)", b"syntax 14"),
         (b"INSERT INTO t VALUES ()", b"syntax 22"),
@@ -181,7 +223,10 @@ fn insert(rt: HostRuntime) -> Result<(), Fail> {
 fn update_and_delete(rt: HostRuntime) -> Result<(), Fail> {
     let rows: [(&[u8], &[u8]); 21] = [
         (b"UPDATE t SET a = 1", b"update t a:=1"),
-        (b"UPDATE t SET a = a + 1, b = 'x' WHERE a > 5;", b"update t a:=(a+1) b:='x' where (a>5)"),
+        (
+            b"UPDATE t SET a = a + 1, b = 'x' WHERE a > 5;",
+            b"update t a:=(a+1) b:='x' where (a>5)",
+        ),
         (b"UPDATE t SET a == 1", b"update t a:=1"),
         (b"UPDATE t SET a = 1 = 2", b"update t a:=(1=2)"),
         (b"UPDATE t SET 1 = 1", b"syntax 13"),
@@ -228,8 +273,14 @@ fn select(rt: HostRuntime) -> Result<(), Fail> {
         (b"SELECT a AS SELECT", b"syntax 12"),
         (b"SELECT a,", b"syntax 9"),
         (b"SELECT 1 WHERE 0", b"select 1 where 0"),
-        (b"SELECT 1 GROUP BY 1 ORDER BY (1) LIMIT 1", b"select 1 group 1 by 1 limit 1"),
-        (b"SELECT a FROM t WHERE a = 1 GROUP BY a, b ORDER BY a DESC, b ASC, c LIMIT 10 OFFSET 5;", b"select a from t/t where (a=1) group a group b by a down by b by c limit 10 offset 5"),
+        (
+            b"SELECT 1 GROUP BY 1 ORDER BY (1) LIMIT 1",
+            b"select 1 group 1 by 1 limit 1",
+        ),
+        (
+            b"SELECT a FROM t WHERE a = 1 GROUP BY a, b ORDER BY a DESC, b ASC, c LIMIT 10 OFFSET 5;",
+            b"select a from t/t where (a=1) group a group b by a down by b by c limit 10 offset 5",
+        ),
         (b"SELECT a FROM t ORDER BY a WHERE 1", b"syntax 27"),
         (b"SELECT a FROM t LIMIT 1 ORDER BY a", b"syntax 24"),
         (b"SELECT a FROM t GROUP a", b"syntax 22"),
@@ -246,7 +297,10 @@ fn select(rt: HostRuntime) -> Result<(), Fail> {
         (b"SELECT 1 LIMIT 1, 2", b"syntax 16"),
         (b"SELECT 1 LIMIT 1 + 1", b"syntax 17"),
         (b"SELECT 1 LIMIT (1)", b"syntax 15"),
-        (b"SELECT 1 LIMIT 9223372036854775807", b"select 1 limit 9223372036854775807"),
+        (
+            b"SELECT 1 LIMIT 9223372036854775807",
+            b"select 1 limit 9223372036854775807",
+        ),
         (b"SELECT 1 LIMIT 9223372036854775808", b"syntax 15"),
         (b"SELECT 1 LIMIT 1.0", b"float 15"),
         (b"SELECT 1 OFFSET 1", b"syntax 9"),
@@ -262,8 +316,14 @@ fn select(rt: HostRuntime) -> Result<(), Fail> {
 fn tables_of_from(rt: HostRuntime) -> Result<(), Fail> {
     let rows: [(&[u8], &[u8]); 27] = [
         (b"SELECT a FROM t AS u, v w", b"select a from t/u from v/w"),
-        (b"SELECT a FROM t JOIN u ON t.a = u.b JOIN v AS w ON 1", b"select a from t/t from u/u from v/w on (t.a=u.b) on 1"),
-        (b"SELECT a FROM t, u JOIN v ON 1, w", b"select a from t/t from u/u from v/v from w/w on 1"),
+        (
+            b"SELECT a FROM t JOIN u ON t.a = u.b JOIN v AS w ON 1",
+            b"select a from t/t from u/u from v/w on (t.a=u.b) on 1",
+        ),
+        (
+            b"SELECT a FROM t, u JOIN v ON 1, w",
+            b"select a from t/t from u/u from v/v from w/w on 1",
+        ),
         (b"SELECT a FROM t JOIN u", b"syntax 22"),
         (b"SELECT a FROM t JOIN u WHERE 1", b"syntax 23"),
         (b"SELECT a FROM t, u ON 1", b"syntax 19"),
@@ -285,7 +345,10 @@ fn tables_of_from(rt: HostRuntime) -> Result<(), Fail> {
         (b"SELECT left FROM t count", b"select left from t/count"),
         (b"SELECT a FROM t JOIN u ON MIN(a)", b"syntax 26"),
         (b"SELECT a FROM t WHERE COUNT(*) > 1", b"syntax 22"),
-        (b"SELECT 1 FROM a,b,c,d,e,f,g JOIN h ON 1", b"select 1 from a/a from b/b from c/c from d/d from e/e from f/f from g/g from h/h on 1"),
+        (
+            b"SELECT 1 FROM a,b,c,d,e,f,g JOIN h ON 1",
+            b"select 1 from a/a from b/b from c/c from d/d from e/e from f/f from g/g from h/h on 1",
+        ),
         (b"SELECT 1 FROM a,b,c,d,e,f,g,h,i", b"syntax 29"),
         (b"SELECT 1 FROM a,b,c,d,e,f,g,h JOIN i ON 1", b"syntax 30"),
     ];
@@ -305,21 +368,51 @@ fn order_by_integers_and_aggregates(rt: HostRuntime) -> Result<(), Fail> {
         (b"SELECT a FROM t ORDER BY 1)", b"syntax 25"),
         (b"SELECT a FROM t ORDER BY 1.5", b"float 25"),
         (b"SELECT a FROM t ORDER BY 1 =", b"syntax 28"),
-        (b"SELECT a FROM t ORDER BY 1 + 1", b"select a from t/t by (1+1)"),
+        (
+            b"SELECT a FROM t ORDER BY 1 + 1",
+            b"select a from t/t by (1+1)",
+        ),
         (b"SELECT a FROM t ORDER BY +1", b"select a from t/t by (+1)"),
         (b"SELECT a FROM t ORDER BY -1", b"select a from t/t by (-1)"),
         (b"SELECT a FROM t ORDER BY (1)", b"select a from t/t by 1"),
-        (b"SELECT a FROM t ORDER BY 1 IS NULL", b"select a from t/t by (null 1)"),
-        (b"SELECT a FROM t ORDER BY 1 * 2 DESC", b"select a from t/t by (1*2) down"),
-        (b"SELECT a FROM t ORDER BY NOT 1", b"select a from t/t by (!1)"),
-        (b"SELECT a FROM t ORDER BY a + 1", b"select a from t/t by (a+1)"),
-        (b"SELECT a FROM t ORDER BY -9223372036854775808", b"select a from t/t by -9223372036854775808"),
-        (b"SELECT a FROM t ORDER BY '1', NULL", b"select a from t/t by '1' by null"),
-        (b"SELECT SUM(a), COUNT(*) FROM t ORDER BY COUNT(b) DESC, MIN(a) + 1", b"select (sum a) count* from t/t by (count b) down by ((min a)+1)"),
-        (b"SELECT max(a + 1) - Min(b)", b"select ((max (a+1))-(min b))"),
+        (
+            b"SELECT a FROM t ORDER BY 1 IS NULL",
+            b"select a from t/t by (null 1)",
+        ),
+        (
+            b"SELECT a FROM t ORDER BY 1 * 2 DESC",
+            b"select a from t/t by (1*2) down",
+        ),
+        (
+            b"SELECT a FROM t ORDER BY NOT 1",
+            b"select a from t/t by (!1)",
+        ),
+        (
+            b"SELECT a FROM t ORDER BY a + 1",
+            b"select a from t/t by (a+1)",
+        ),
+        (
+            b"SELECT a FROM t ORDER BY -9223372036854775808",
+            b"select a from t/t by -9223372036854775808",
+        ),
+        (
+            b"SELECT a FROM t ORDER BY '1', NULL",
+            b"select a from t/t by '1' by null",
+        ),
+        (
+            b"SELECT SUM(a), COUNT(*) FROM t ORDER BY COUNT(b) DESC, MIN(a) + 1",
+            b"select (sum a) count* from t/t by (count b) down by ((min a)+1)",
+        ),
+        (
+            b"SELECT max(a + 1) - Min(b)",
+            b"select ((max (a+1))-(min b))",
+        ),
         (b"SELECT COUNT ( * )", b"select count*"),
         (b"SELECT count, sum FROM t", b"select count sum from t/t"),
-        (b"SELECT count.a FROM count", b"select count.a from count/count"),
+        (
+            b"SELECT count.a FROM count",
+            b"select count.a from count/count",
+        ),
         (b"SELECT COUNT() FROM t", b"syntax 13"),
         (b"SELECT SUM(*) FROM t", b"syntax 11"),
         (b"SELECT SUM(COUNT(*)) FROM t", b"syntax 11"),
@@ -340,13 +433,19 @@ fn order_by_integers_and_aggregates(rt: HostRuntime) -> Result<(), Fail> {
 #[test]
 fn levels(rt: HostRuntime) -> Result<(), Fail> {
     let rows: [(&[u8], &[u8]); 48] = [
-        (b"SELECT 1 + 2 * 3 - 4 / 5 % 6", b"select ((1+(2*3))-((4/5)%6))"),
+        (
+            b"SELECT 1 + 2 * 3 - 4 / 5 % 6",
+            b"select ((1+(2*3))-((4/5)%6))",
+        ),
         (b"SELECT 1 - 2 - 3", b"select ((1-2)-3)"),
         (b"SELECT 8 / 4 / 2", b"select ((8/4)/2)"),
         (b"SELECT a OR b AND NOT c = d", b"select (a|(b&(!(c=d))))"),
         (b"SELECT a AND b OR c AND d", b"select ((a&b)|(c&d))"),
         (b"SELECT NOT NOT a", b"select (!(!a))"),
-        (b"SELECT a = b <> c == d != e", b"select ((((a=b)<>c)=d)<>e)"),
+        (
+            b"SELECT a = b <> c == d != e",
+            b"select ((((a=b)<>c)=d)<>e)",
+        ),
         (b"SELECT a < b <= c > d >= e", b"select ((((a<b)<=c)>d)>=e)"),
         (b"SELECT a < b = c + 1 < d", b"select ((a<b)=((c+1)<d))"),
         (b"SELECT a IS NULL IS NOT NULL", b"select (some (null a))"),
@@ -405,7 +504,10 @@ fn terms(rt: HostRuntime) -> Result<(), Fail> {
         (b"SELECT (SELECT 1)", b"syntax 8"),
         (b"SELECT 1)", b"syntax 8"),
         (b"SELECT (1, 2)", b"syntax 9"),
-        (b"SELECT t.a, \"t\".\"b c\", rowid", b"select t.a t.b c rowid"),
+        (
+            b"SELECT t.a, \"t\".\"b c\", rowid",
+            b"select t.a t.b c rowid",
+        ),
         (b"SELECT t.1", b"float 8"),
         (b"SELECT t.select", b"syntax 9"),
         (b"SELECT t.", b"syntax 9"),
@@ -414,14 +516,26 @@ fn terms(rt: HostRuntime) -> Result<(), Fail> {
         (b"SELECT \"\"", b"select "),
         (b"SELECT 9223372036854775807", b"select 9223372036854775807"),
         (b"SELECT 9223372036854775808", b"syntax 7"),
-        (b"SELECT -9223372036854775808", b"select -9223372036854775808"),
-        (b"SELECT - 9223372036854775808", b"select -9223372036854775808"),
+        (
+            b"SELECT -9223372036854775808",
+            b"select -9223372036854775808",
+        ),
+        (
+            b"SELECT - 9223372036854775808",
+            b"select -9223372036854775808",
+        ),
         (b"SELECT 1 - 9223372036854775808", b"syntax 11"),
         (b"SELECT -9223372036854775809", b"syntax 8"),
         (b"SELECT +9223372036854775808", b"syntax 8"),
-        (b"SELECT - -9223372036854775808", b"select (--9223372036854775808)"),
+        (
+            b"SELECT - -9223372036854775808",
+            b"select (--9223372036854775808)",
+        ),
         (b"SELECT -(9223372036854775808)", b"syntax 9"),
-        (b"SELECT 0009223372036854775807, 00", b"select 9223372036854775807 0"),
+        (
+            b"SELECT 0009223372036854775807, 00",
+            b"select 9223372036854775807 0",
+        ),
         (b"SELECT 18446744073709551616", b"syntax 7"),
         (b"SELECT 1.", b"float 7"),
         (b"SELECT .5", b"float 7"),
@@ -457,29 +571,65 @@ fn terms(rt: HostRuntime) -> Result<(), Fail> {
 #[test]
 fn texts_of_tables(rt: HostRuntime) -> Result<(), Fail> {
     let rows: [(&[u8], &[u8]); 45] = [
-        (b"CREATE TABLE t(a INTEGER PRIMARY KEY, b TEXT NOT NULL)", b"usable a:i:key b:t:some"),
-        (b"CREATE TABLE t(a INT, b VARCHAR(10), c CLOB, d BLOB, e, f BIGINT UNSIGNED)", b"usable a:i b:t c:t d:b e:b f:i"),
+        (
+            b"CREATE TABLE t(a INTEGER PRIMARY KEY, b TEXT NOT NULL)",
+            b"usable a:i:key b:t:some",
+        ),
+        (
+            b"CREATE TABLE t(a INT, b VARCHAR(10), c CLOB, d BLOB, e, f BIGINT UNSIGNED)",
+            b"usable a:i b:t c:t d:b e:b f:i",
+        ),
         (b"create table \"t\"(\"a\" text(1,2));", b"usable a:t"),
         (b"CREATE TABLE t(a DECIMAL(10, 5))", b"unusable"),
         (b"CREATE TABLE t(a TEXT, b REAL)", b"unusable"),
         (b"CREATE TABLE t(a REAL UNIQUE, b TEXT)", b"unusable"),
         (b"CREATE TABLE t(a count(1))", b"unusable"),
         (b"CREATE TABLE t(a TEXT UNIQUE)", b"read only a:t"),
-        (b"CREATE TABLE t(a INTEGER PRIMARY KEY AUTOINCREMENT)", b"read only a:i:key"),
-        (b"CREATE TABLE t(a INTEGER PRIMARY KEY AUTOINCREMENT NOT NULL, b)", b"read only a:i:key:some b:b"),
+        (
+            b"CREATE TABLE t(a INTEGER PRIMARY KEY AUTOINCREMENT)",
+            b"read only a:i:key",
+        ),
+        (
+            b"CREATE TABLE t(a INTEGER PRIMARY KEY AUTOINCREMENT NOT NULL, b)",
+            b"read only a:i:key:some b:b",
+        ),
         (b"CREATE TABLE t(a PRIMARY KEY)", b"read only a:b"),
         (b"CREATE TABLE t(a INT PRIMARY KEY)", b"read only a:i"),
-        (b"CREATE TABLE t(a INTEGER(4) PRIMARY KEY)", b"read only a:i"),
-        (b"CREATE TABLE t(a INTEGER INTEGER PRIMARY KEY)", b"read only a:i"),
-        (b"CREATE TABLE t(a TEXT NOT NULL PRIMARY KEY)", b"read only a:t:some"),
-        (b"CREATE TABLE t(a UNIQUE NOT NULL PRIMARY KEY)", b"read only a:b:some"),
+        (
+            b"CREATE TABLE t(a INTEGER(4) PRIMARY KEY)",
+            b"read only a:i",
+        ),
+        (
+            b"CREATE TABLE t(a INTEGER INTEGER PRIMARY KEY)",
+            b"read only a:i",
+        ),
+        (
+            b"CREATE TABLE t(a TEXT NOT NULL PRIMARY KEY)",
+            b"read only a:t:some",
+        ),
+        (
+            b"CREATE TABLE t(a UNIQUE NOT NULL PRIMARY KEY)",
+            b"read only a:b:some",
+        ),
         (b"CREATE TABLE t(a NOT NULL UNIQUE)", b"read only a:b:some"),
-        (b"CREATE TABLE t(a INTEGER PRIMARY KEY UNIQUE NOT NULL)", b"read only a:i:key:some"),
-        (b"CREATE TABLE t(a xINTx, b charint, c FLOATING POINT, d blobtext, e int blob, f NCHAR, g AUTOINCREMENT BLOB)", b"usable a:i b:i c:i d:t e:i f:t g:b"),
+        (
+            b"CREATE TABLE t(a INTEGER PRIMARY KEY UNIQUE NOT NULL)",
+            b"read only a:i:key:some",
+        ),
+        (
+            b"CREATE TABLE t(a xINTx, b charint, c FLOATING POINT, d blobtext, e int blob, f NCHAR, g AUTOINCREMENT BLOB)",
+            b"usable a:i b:i c:i d:t e:i f:t g:b",
+        ),
         (b"CREATE TABLE t(a UNIQUE UNIQUE)", b"syntax 24"),
-        (b"CREATE TABLE t(a PRIMARY KEY NOT NULL AUTOINCREMENT)", b"syntax 38"),
+        (
+            b"CREATE TABLE t(a PRIMARY KEY NOT NULL AUTOINCREMENT)",
+            b"syntax 38",
+        ),
         (b"CREATE TABLE t(a NOT NULL NOT NULL)", b"syntax 26"),
-        (b"CREATE TABLE t(a PRIMARY KEY, b PRIMARY KEY)", b"syntax 32"),
+        (
+            b"CREATE TABLE t(a PRIMARY KEY, b PRIMARY KEY)",
+            b"syntax 32",
+        ),
         (b"CREATE TABLE t(a DEFAULT 1)", b"syntax 17"),
         (b"CREATE TABLE t(a TEXT COLLATE NOCASE)", b"syntax 22"),
         (b"CREATE TABLE t(a REFERENCES u)", b"syntax 17"),

@@ -60,7 +60,11 @@ pub fn after_if(may: bool, symbol: Symbol, lexemes: &[Lexeme]) -> Option<&[Lexem
     ensures { next (λ t. table.if_wide may (spec.is symbol t)) lexemes.now ≡ option_map (λ rest. (tt, rest.now)) result }
 {
     let (first, rest) = lexemes.split_first()?;
-    if may && is(symbol, first) { Some(rest) } else { None }
+    if may && is(symbol, first) {
+        Some(rest)
+    } else {
+        None
+    }
 }
 
 /// The lexemes after this word, where it stands at the front.
@@ -68,7 +72,11 @@ pub fn after_word(word: Word, lexemes: &[Lexeme]) -> Option<&[Lexeme]>
     ensures { next (spec.is_word word) lexemes.now ≡ option_map (λ rest. (tt, rest.now)) result }
 {
     let (first, rest) = lexemes.split_first()?;
-    if is_word(word, first) { Some(rest) } else { None }
+    if is_word(word, first) {
+        Some(rest)
+    } else {
+        None
+    }
 }
 
 /// The same, but none unless it may stand there.
@@ -76,7 +84,11 @@ pub fn after_word_if(may: bool, word: Word, lexemes: &[Lexeme]) -> Option<&[Lexe
     ensures { next (λ t. table.if_wide may (spec.is_word word t)) lexemes.now ≡ option_map (λ rest. (tt, rest.now)) result }
 {
     let (first, rest) = lexemes.split_first()?;
-    if may && is_word(word, first) { Some(rest) } else { None }
+    if may && is_word(word, first) {
+        Some(rest)
+    } else {
+        None
+    }
 }
 
 /// The lexemes after this symbol, which must stand at the front.
@@ -127,7 +139,13 @@ fn joins(word: Word) -> bool
     ensures { result ≡ spec.joins word }
 {
     match word {
-        Word::Cross | Word::Full | Word::Inner | Word::Left | Word::Natural | Word::Outer | Word::Right => true,
+        Word::Cross
+        | Word::Full
+        | Word::Inner
+        | Word::Left
+        | Word::Natural
+        | Word::Outer
+        | Word::Right => true,
         _ => false,
     }
 }
@@ -152,7 +170,11 @@ fn alias_of(lexeme: &Lexeme) -> Option<&[u8]>
 fn in_small(byte: u8) -> u8
     ensures { result ≡ spec.in_small byte }
 {
-    if 64 < byte && byte < 91 { byte + 32 } else { byte }
+    if 64 < byte && byte < 91 {
+        byte + 32
+    } else {
+        byte
+    }
 }
 
 /// Whether the bytes begin with this word, which has no capital letter.
@@ -200,7 +222,10 @@ pub fn name(alloc: Global, lexemes: &[Lexeme]) -> Result<Option<(Txt, &[Lexeme])
 }
 
 /// The name at the front that begins a term, and the lexemes after it.
-pub fn column_name(alloc: Global, lexemes: &[Lexeme]) -> Result<Option<(Txt, &[Lexeme])>, AllocError>
+pub fn column_name(
+    alloc: Global,
+    lexemes: &[Lexeme],
+) -> Result<Option<(Txt, &[Lexeme])>, AllocError>
     ensures { IfOk result (λ found. next spec.column_of lexemes.now ≡ option_map (λ p. (p.0, p.1.now)) found) }
 {
     let Some((first, rest)) = lexemes.split_first() else {
@@ -237,7 +262,10 @@ pub fn expect_name(alloc: Global, lexemes: &[Lexeme]) -> Result<(Txt, &[Lexeme])
 }
 
 /// The name to be created that must stand at the front, and the lexemes after it.
-pub fn expect_new_name(alloc: Global, lexemes: &[Lexeme]) -> Result<(Txt, &[Lexeme]), ParseError<'_>>
+pub fn expect_new_name(
+    alloc: Global,
+    lexemes: &[Lexeme],
+) -> Result<(Txt, &[Lexeme]), ParseError<'_>>
     ensures { Gives (λ x. (x.0, x.1.now)) result (read (must spec.new_name_of give) lexemes.now) }
 {
     let Some((first, rest)) = lexemes.split_first() else {

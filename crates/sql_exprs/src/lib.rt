@@ -9,6 +9,6 @@ mod lexeme;
 
 pub use expr::{MAX_DEPTH, expression, value};
 pub use lexeme::{
-    ParseError, after, after_if, after_word, after_word_if, alias, begins_with, column_name, count, expect, expect_count,
-    expect_name, expect_new_name, expect_word, name,
+    ParseError, after, after_if, after_word, after_word_if, alias, begins_with, column_name, count,
+    expect, expect_count, expect_name, expect_new_name, expect_word, name,
 };

@@ -428,7 +428,7 @@ groups_decides : Decides groups ends_groups
 unfolding groups same_symbol
 groups_decides = (
   (λ _ _. values_decides (sign.Order ∷ sign.Limit ∷ sign.Semicolon ∷ []) (λ t k. none_all (sign.Order ∷ sign.Limit ∷ sign.Semicolon ∷ []) (is sign.Comma) refl t k)
-  (λ t k. all_of (sign.Order ∷ sign.Limit ∷ sign.Semicolon ∷ []) (quiet 8) refl t k)),
+      (λ t k. all_of (sign.Order ∷ sign.Limit ∷ sign.Semicolon ∷ []) (quiet 8) refl t k)),
   tt,
   λ t k. none_all (sign.Order ∷ sign.Limit ∷ sign.Semicolon ∷ []) (is sign.Group) refl t k,
 )
@@ -602,18 +602,43 @@ no_begin _ k = refl
 
 pub statement_decides : Decides statement_grammar nothing_more
 unfolding statement_grammar
-statement_decides =
-    ((λ _. begun_decides),
-    ((λ _. closed_decides _),
-    ((λ _. closed_decides _),
-    ((λ _. closed_decides _),
-    ((λ _. created_decides),
-    ((λ _. dropped_decides),
-    ((λ _. insert_decides),
-    ((λ _. update_decides),
-    ((λ _. delete_decides),
-    (λ _. select_decides),
-    no_delete), no_update), no_insert), no_drop), no_create), no_rollback), no_end), no_commit), no_begin)
+statement_decides = (
+  (λ _. begun_decides),
+  (
+    (λ _. closed_decides _),
+    (
+      (λ _. closed_decides _),
+      (
+        (λ _. closed_decides _),
+        (
+          (λ _. created_decides),
+          (
+            (λ _. dropped_decides),
+            (
+              (λ _. insert_decides),
+              (
+                (λ _. update_decides),
+                (
+                  (λ _. delete_decides),
+                  (λ _. select_decides),
+                  no_delete,
+                ),
+                no_update,
+              ),
+              no_insert,
+            ),
+            no_drop,
+          ),
+          no_create,
+        ),
+        no_rollback,
+      ),
+      no_end,
+    ),
+    no_commit,
+  ),
+  no_begin,
+)
 
 -- ---- the texts of a file
 

@@ -84,7 +84,10 @@ pub struct Named {
 #[derive(Drop)]
 pub enum Created {
     /// Without columns where the state is [`Use::Unusable`].
-    Table { state: Use, columns: Items<Column> },
+    Table {
+        state: Use,
+        columns: Items<Column>,
+    },
     Index {
         unique: bool,
         table: Txt,

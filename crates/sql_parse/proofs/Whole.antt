@@ -7,12 +7,9 @@ use Rattle.grammars.specs.Lookahead.{Decides, Ends}
 use Rattle.grammars.proofs.Exact.{all_sound, all_complete, all_wrong}
 use Rattle.sql_lexemes.specs.declared.lexeme.Lexeme.{Lexeme}
 use Rattle.sql_lexemes.specs.Lexemes.{lexemes_of, places_of}
-use Rattle.sql_exprs.specs.declared.lexeme.ParseError.{ParseError}
-use Rattle.sql_exprs.specs.declared.lexeme.ParseError.TheVariants as error
-use Rattle.sql_exprs.specs.Gives.{Fails}
 use Rattle.sql_parse.specs.declared.text.ParseFault.{ParseFault}
 use Rattle.sql_parse.specs.declared.text.ParseFault.TheVariants as fault
-use Rattle.sql_parse.specs.Text.{begins_float, place_behind, GoesWrongAt, IsFault, IsRead, fault_of, fault_at, Explains, Follows}
+use Rattle.sql_parse.specs.Text.{begins_float, place_behind, GoesWrongAt, IsFault, IsRead, fault_of, fault_at, Follows}
 
 front_length : (front rest : List Lexeme) → length (front ++ rest) - length rest ≡ length front
 front_length front rest = omega (arith, length-append front rest)
@@ -74,15 +71,3 @@ module _ {A : Type 0} (g : Grammar Lexeme A) (d : Decides g (λ _. false)) (e : 
         from_read (Err fault.Memory) k = tt
         from_read (Err (fault.Syntax at)) (rest, is, same) = subst (IsFault g text) (sym same) (wrong_at rest (all_wrong g d e (lexemes_of text) rest is))
         from_read (Err (fault.Float at)) (rest, is, same) = subst (IsFault g text) (sym same) (wrong_at rest (all_wrong g d e (lexemes_of text) rest is))
-
--- ---- from the error of reading to the answer
-
-pub follows_error : {A : Type 0} (text places : List ℕ) (all : List Lexeme) (read : Result A (List Lexeme)) (e : ParseError) (found : ParseFault)
-    → Fails e read → Explains found text places all e → Follows (Err found) text places all read
-follows_error {A} text places all read error.Memory found h is = subst (λ f. Follows {A} (Err f) text places all read) (sym is) tt
-follows_error {A} text places all read (error.At rest) found h is =
-    subst (λ f. Follows {A} (Err f) text places all read) (sym is) (by_kind (begins_float rest.now) _ refl)
-  where
-    by_kind : (float : Bool) (at : ℕ) → fault_at text places all rest.now ≡ fault_of float at → Follows {A} (Err (fault_of float at)) text places all read
-    by_kind true at same = (rest.now, h, sym same)
-    by_kind false at same = (rest.now, h, sym same)

@@ -97,7 +97,10 @@ fn created_index(
 }
 
 #[tactic(auto, unfolding(sql_grammar::specs::Statement::created_table))]
-fn created_table(alloc: Global, lexemes: &[Lexeme]) -> Result<(Statement, &[Lexeme]), ParseError<'_>>
+fn created_table(
+    alloc: Global,
+    lexemes: &[Lexeme],
+) -> Result<(Statement, &[Lexeme]), ParseError<'_>>
     ensures { Gives (λ x. (x.0, x.1.now)) result (read spec.created_table lexemes.now) }
 {
     let (text, rest) = table(alloc, false, lexemes)?;

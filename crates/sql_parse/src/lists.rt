@@ -99,7 +99,10 @@ pub fn sets(alloc: Global, lexemes: &[Lexeme]) -> Result<(Items<Set>, &[Lexeme])
 
 /// The condition behind WHERE, where it stands at the front.
 #[tactic(auto, unfolding(sql_grammar::specs::Statement::filter))]
-pub fn filter(alloc: Global, lexemes: &[Lexeme]) -> Result<(Option<Expr>, &[Lexeme]), ParseError<'_>>
+pub fn filter(
+    alloc: Global,
+    lexemes: &[Lexeme],
+) -> Result<(Option<Expr>, &[Lexeme]), ParseError<'_>>
     ensures { Gives (λ x. (x.0, x.1.now)) result (read spec.filter lexemes.now) }
 {
     match after(Symbol::Where, lexemes) {

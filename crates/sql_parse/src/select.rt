@@ -8,11 +8,10 @@ use crate::lists::{filter, values};
 use crate::statement::ended;
 use disk_face::Txt;
 use sql_exprs::{
-    ParseError, after, after_word, alias, count, expect, expect_count, expect_name, expect_word, value,
+    ParseError, after, after_word, alias, count, expect, expect_count, expect_name, expect_word,
+    value,
 };
-use sql_grammar::{
-    Expr, Exprs, Joint, Limits, Named, Place, Select, Sort, Sources, Statement,
-};
+use sql_grammar::{Expr, Exprs, Joint, Limits, Named, Place, Select, Sort, Sources, Statement};
 use sql_lexemes::{Lexeme, Symbol, Word};
 use sqlite_items::Items;
 use std::alloc::{AllocError, Global};
@@ -52,7 +51,11 @@ fn list(alloc: Global, lexemes: &[Lexeme]) -> Result<(Exprs, &[Lexeme]), ParseEr
 
 /// The name that the table has in the statement, behind its own.
 #[tactic(auto, unfolding(sql_grammar::specs::Statement::named, sql_grammar::specs::Table::name))]
-fn named(alloc: Global, table: Txt, lexemes: &[Lexeme]) -> Result<(Named, &[Lexeme]), ParseError<'_>>
+fn named(
+    alloc: Global,
+    table: Txt,
+    lexemes: &[Lexeme],
+) -> Result<(Named, &[Lexeme]), ParseError<'_>>
     ensures { Gives (λ x. (x.0, x.1.now)) result (read (spec.named table) lexemes.now) }
 {
     if let Some(rest) = after(Symbol::As, lexemes) {
@@ -177,7 +180,10 @@ fn sources(alloc: Global, lexemes: &[Lexeme]) -> Result<(Sources, &[Lexeme]), Pa
 }
 
 #[tactic(auto, unfolding(sql_grammar::specs::Statement::optional_sources))]
-fn optional_sources(alloc: Global, lexemes: &[Lexeme]) -> Result<(Sources, &[Lexeme]), ParseError<'_>>
+fn optional_sources(
+    alloc: Global,
+    lexemes: &[Lexeme],
+) -> Result<(Sources, &[Lexeme]), ParseError<'_>>
     ensures { Gives (λ x. (x.0, x.1.now)) result (read spec.optional_sources lexemes.now) }
 {
     match after(Symbol::From, lexemes) {

@@ -75,7 +75,10 @@ fn by_symbol(alloc: Global, lexemes: &[Lexeme]) -> Result<(Statement, &[Lexeme])
 }
 
 #[tactic(auto, unfolding(sql_grammar::specs::Statement::statement_grammar))]
-pub fn statement(alloc: Global, lexemes: &[Lexeme]) -> Result<(Statement, &[Lexeme]), ParseError<'_>>
+pub fn statement(
+    alloc: Global,
+    lexemes: &[Lexeme],
+) -> Result<(Statement, &[Lexeme]), ParseError<'_>>
     ensures { Gives (λ x. (x.0, x.1.now)) result (read spec.statement_grammar lexemes.now) }
 {
     if let Some(rest) = after_word(Word::Begin, lexemes) {

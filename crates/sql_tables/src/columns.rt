@@ -8,7 +8,9 @@ ghost use Rattle.sql_exprs.specs.Gives.{Gives};
 
 use crate::types::optional_type;
 use disk_face::Txt;
-use sql_exprs::{ParseError, after, after_word_if, expect, expect_name, expect_new_name, expect_word};
+use sql_exprs::{
+    ParseError, after, after_word_if, expect, expect_name, expect_new_name, expect_word,
+};
 use sql_grammar::{Affinity, Column, Constraint, Declared, Draft, TableText, Typed, Use};
 use sql_lexemes::{Lexeme, Symbol, Word};
 use sqlite_items::Items;
@@ -165,13 +167,7 @@ fn use_of(affinity: Option<Affinity>, wider: bool) -> Use
 {
     match affinity {
         None => Use::Unusable,
-        Some(_) => {
-            if wider {
-                Use::ReadOnly
-            } else {
-                Use::Usable
-            }
-        }
+        Some(_) => { if wider { Use::ReadOnly } else { Use::Usable } }
     }
 }
 
