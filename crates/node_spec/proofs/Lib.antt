@@ -1,0 +1,5 @@
+pub mod CellLaws
+pub mod FaultLaws
+pub mod PieceLaws
+pub mod Decode
+pub mod NodeLaws
