@@ -13,8 +13,8 @@ use Rattle.value_form.specs.declared.value.Value.{Value}
 use Rattle.value_form.specs.declared.fault.RecordFault.{RecordFault}
 use Rattle.value_form.specs.declared.fault.RecordFault.TheVariants.{BadHeader, Short, Float, Memory}
 use Rattle.value_form.specs.Serial.{body_size, value_of}
-use Rattle.value_form.specs.Record.{has_header, header_from, bodies_in, begins_with_type, BeginsWithTypes, HasTypes, bodies_size, first_float, values_of, IsRecord, BreaksHeader, IsRefused}
-use Rattle.value_form.specs.Reading.{IsTakenOf, IsOrMemory, IsLeft}
+use Rattle.value_form.specs.Record.{has_header, header_from, bodies_in, begins_with_type, BeginsWithTypes, HasTypes, bodies_size, first_float, values_of, IsRecord, BreaksHeader, IsRefused, IsOrMemory}
+use Rattle.value_form.specs.Reading.{IsTakenOf, IsLeft}
 use Rattle.value_form.specs.declared.read.Taken.{Taken}
 
 -- The header.

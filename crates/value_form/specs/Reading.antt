@@ -1,14 +1,9 @@
 -- What is said of a reader on its way through a record.
-use Rattle.std.specs.Prelude.{◌≡◌, ℕ, ◌-◌, ◌^◌, ◌<◌, ◌≤◌, ◌⊎◌, min, List, length, Some, Err, Result, None}
-use Rattle.value_form.specs.declared.value.Value.{Value}
+use Rattle.std.specs.Prelude.{◌≡◌, ℕ, ◌-◌, ◌^◌, ◌<◌, ◌≤◌, min, List, length, Some, None}
 use Rattle.value_form.specs.declared.fault.RecordFault.{RecordFault}
 use Rattle.value_form.specs.declared.fault.RecordFault.TheVariants.{BadHeader, Short, Float, Memory}
 use Rattle.value_form.specs.declared.read.Taken.{Taken}
 use Rattle.value_form.specs.Record.{bodies_size, first_float, values_of}
-
--- an answer is this one, or that memory ran out
-abbrev pub IsOrMemory : Result (List Value) RecordFault → Result (List Value) RecordFault → Type 0
-IsOrMemory answer this = (answer ≡ this) ⊎ (answer ≡ Err Memory)
 
 -- what the values of these types gave
 pub record IsTakenOf (taken : Taken) (types bodies : List ℕ) : Type 0 where

@@ -3,7 +3,7 @@
 -- header counts the varint that spells it. Bytes after those of the values have no meaning.
 --
 -- Floats aren't read. The order of the faults, and what each tells, are this project's own.
-use Rattle.std.specs.Prelude.{◌≡◌, ℕ, ◌-◌, ◌^◌, ◌<◌, ◌≤◌, ◌⊎◌, min, List, [], ◌∷◌, length, take, drop, sum_by, Option, None, Some, position, Bool, false, ◌==◌, nat_le, ◌&&◌, not, IsTrue}
+use Rattle.std.specs.Prelude.{◌≡◌, ℕ, ◌-◌, ◌^◌, ◌<◌, ◌≤◌, ◌⊎◌, min, List, [], ◌∷◌, length, take, drop, sum_by, Option, None, Some, Result, Err, position, Bool, false, ◌==◌, nat_le, ◌&&◌, not, IsTrue}
 use Rattle.page_spec.specs.Varint.{varint_size, varint_number}
 use Rattle.value_form.specs.declared.value.Value.{Value}
 use Rattle.value_form.specs.declared.fault.RecordFault.{RecordFault}
@@ -96,3 +96,7 @@ IsRefused bytes (BadHeader at) = BreaksHeader bytes at
 IsRefused bytes (Short need) = IsShort bytes need
 IsRefused bytes (Float column) = HasFloat bytes column
 IsRefused bytes Memory = ⊥
+
+-- an answer is this one, or that memory ran out
+abbrev pub IsOrMemory : Result (List Value) RecordFault → Result (List Value) RecordFault → Type 0
+IsOrMemory answer this = (answer ≡ this) ⊎ (answer ≡ Err Memory)

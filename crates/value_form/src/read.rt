@@ -3,18 +3,18 @@
 ghost use Rattle.std.specs.Prelude.{◌≡◌, ◌^◌, ◌<◌, ◌≤◌, ◌≢◌, ◌+◌, ◌++◌, ◌∷◌, [], ◌⊎◌, List, ℕ, length, take, drop, true, false, IfOk, IfErr, OnOk, IfSome, MatchOption};
 ghost use Rattle.page_spec.specs.Varint.{varint_size, varint_number};
 ghost use Rattle.value_form.specs.declared.value.Value.{Value as SqlValue};
-ghost use Rattle.value_form.specs.Record.{has_header, begins_with_type, HasTypes, IsRecord, IsRefused, IsShort, HasFloat};
-ghost use Rattle.value_form.specs.Reading.{IsTakenOf, IsOrMemory, IsLeft};
+ghost use Rattle.value_form.specs.Record.{has_header, begins_with_type, HasTypes, IsRecord, IsRefused, IsShort, HasFloat, IsOrMemory};
+ghost use Rattle.value_form.specs.Reading.{IsTakenOf, IsLeft};
 
 use crate::serial::{FLOAT, body_size, read_value};
 use crate::{RecordFault, Row};
 use be_fields::get_varint;
 use std::alloc::{AllocError, Global};
 
-/// Reads the record that the bytes begin with. Bytes after its values are ignored.
+/// Reads the record that fewer than 2^32 bytes begin with. Bytes after its values are ignored.
 ///
 /// The faults are those of [`RecordFault`], in their order. Nothing but a text's or a blob's bytes and the row itself is
-/// allocated.
+/// allocated. The form is that of SQLite's page "Database File Format" under "Record Format".
 pub fn read_record(alloc: Global, bytes: &[u8]) -> Result<Row, RecordFault>
     requires { length bytes.now < 2 ^ 32 }
     ensures read { IfOk result (IsRecord bytes.now) }

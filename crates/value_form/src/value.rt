@@ -5,12 +5,16 @@ use disk_face::{Bytes, Txt};
 use std::alloc::{AllocError, Global};
 use std::marker::Model;
 
-/// A value of SQL. A text may hold any bytes.
+/// A value of SQL.
 #[derive(Debug, Drop)]
 pub enum Value {
+    /// No value.
     Null,
+    /// An integer of 64 bits.
     Int(i64),
+    /// A text, which may hold any bytes.
     Text(Txt),
+    /// Bytes that are no text.
     Blob(Bytes),
 }
 
