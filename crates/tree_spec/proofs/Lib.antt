@@ -1,0 +1,5 @@
+pub mod Lists
+pub mod Renamed
+pub mod Local
+pub mod Once
+pub mod Rising

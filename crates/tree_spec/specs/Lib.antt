@@ -1,0 +1,5 @@
+pub mod Layout
+pub mod Shown
+pub mod Chains
+pub mod Trees
+pub mod Renaming
