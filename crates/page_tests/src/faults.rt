@@ -2,10 +2,9 @@
 // (NULL, 'Ada') twice, or once with a freeblock of 8 bytes behind it. The expected fields are worked by hand.
 ghost use Rattle.std.specs.Prelude.{◌≡◌, length};
 
+use page_form::{PageFault, read_page};
 use std::alloc::Global;
 use std::process::Abort;
-
-use page_form::{PageFault, read_page};
 
 const ADA: &[u8; 8] = b"\x06\x01\x03\x00\x13\x41\x64\x61";
 
@@ -18,7 +17,13 @@ fn write(page: &mut [u8], at: usize, bytes: &[u8]) {
 }
 
 // The fault of a page with bytes written at a place; 512 where it has none.
-fn fault_of(rt: &impl Abort, alloc: Global, page: &[u8; 512], at: usize, bytes: &[u8]) -> Result<usize, PageFault> {
+fn fault_of(
+    rt: &impl Abort,
+    alloc: Global,
+    page: &[u8; 512],
+    at: usize,
+    bytes: &[u8],
+) -> Result<usize, PageFault> {
     let mut broken = *page;
     write(&mut broken, at, bytes);
     match read_page(alloc, &broken, 512, false) {
@@ -34,7 +39,11 @@ fn fault_of(rt: &impl Abort, alloc: Global, page: &[u8; 512], at: usize, bytes: 
 #[test]
 fn cells_are_checked(rt: HostRuntime) -> Result<(), PageFault> {
     let mut page = [0u8; 512];
-    write(&mut page, 0, b"\x0d\x00\x00\x00\x02\x01\xf0\x00\x01\xf0\x01\xf8");
+    write(
+        &mut page,
+        0,
+        b"\x0d\x00\x00\x00\x02\x01\xf0\x00\x01\xf0\x01\xf8",
+    );
     write(&mut page, 496, ADA);
     write(&mut page, 504, ADA);
     let cases: [(usize, &[u8], usize); 13] = [

@@ -1,7 +1,6 @@
 // Pages that the real sqlite3 wrote, with what it says they hold. Made by bench/page_vectors.py; not edited by hand.
-use page_form::Kind;
-
 use crate::vectors::Stock;
+use page_form::Kind;
 
 /// Page 1 of a file of page size 512 with 0 reserved bytes: 0 bytes in freeblocks, 0 in fragments, 0 cells with overflow.
 pub const PAGE_1: Stock = Stock {

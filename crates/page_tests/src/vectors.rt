@@ -3,12 +3,10 @@ ghost use Rattle.std.specs.Prelude.{◌≡◌, ℕ, ◌≤◌, length};
 ghost use Rattle.node_spec.specs.Nodes.{Node};
 ghost use Rattle.page_form.specs.Reading.{IsReadPage};
 
+use crate::stock;
+use page_form::{Cell, Kind, Page, PageFault, read_cell, read_page};
 use std::alloc::Global;
 use std::process::Abort;
-
-use page_form::{Cell, Kind, Page, PageFault, read_cell, read_page};
-
-use crate::stock;
 
 /// A page that SQLite wrote, and what it says of it.
 pub struct Stock {
@@ -59,7 +57,8 @@ fn expand(text: &[u8], page: &mut [u8]) {
         }
         let byte = byte_at(text, at);
         if byte == 0 {
-            let zeros = usize::from(byte_at(text, at + 2)) * 256 + usize::from(byte_at(text, at + 4));
+            let zeros = usize::from(byte_at(text, at + 2)) * 256
+                + usize::from(byte_at(text, at + 4));
             to = to.saturating_add(zeros);
             at += 6;
         } else {
@@ -73,7 +72,9 @@ fn expand(text: &[u8], page: &mut [u8]) {
 }
 
 fn mix(total: u32, number: u64) -> u32 {
-    total.wrapping_mul(31).wrapping_add((number % (1 << 32)) as u32)
+    total
+        .wrapping_mul(31)
+        .wrapping_add((number % (1 << 32)) as u32)
 }
 
 // The checksum goes on over one cell.
