@@ -1,2 +1,3 @@
+pub mod LexemeLaws
 pub mod Lookup
 pub mod ValueLaws

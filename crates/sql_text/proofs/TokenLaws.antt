@@ -201,7 +201,7 @@ module _ (found : TokenKind) (b : ℕ) (f r : List ℕ) where
 -- ---- the first byte of a token
 
 -- what holds of as many numbers as told from one on
-AllFrom : (ℕ → Type 0) → ℕ → ℕ → Type 0
+unfoldable pub AllFrom : (ℕ → Type 0) → ℕ → ℕ → Type 0
 AllFrom P zero low = Unit {0}
 AllFrom P (suc count) low = P low × AllFrom P count (low + 1)
 
@@ -212,7 +212,7 @@ in_range P (suc count) low all b above below =
     ⊎_elim (λ more. in_range P count (low + 1) all.1 b (omega (arith, more)) (omega (arith, below)))
     (λ least. let same : low ≡ b = omega (arith, least, above) in subst P same all.0) (order low b)
 
-within : (P : ℕ → Type 0) (low high : ℕ) → AllFrom P (high + 1 - low) low → (b : ℕ) → t.between low high b ≡ true → P b
+pub within : (P : ℕ → Type 0) (low high : ℕ) → AllFrom P (high + 1 - low) low → (b : ℕ) → t.between low high b ≡ true → P b
 within P low high all b is =
     let p = parts (nat_le low b) (nat_le b high) is in
     let above : low ≤ b = leb-true low b p.0 in

@@ -1,6 +1,7 @@
 // What a token is, and why a text has none.
 
-use std::alloc::{AllocError, AllocFailed};
+use std::alloc::AllocError;
+use thiserror::Error;
 
 /// What kind of token it is.
 #[derive(Clone, Copy, Debug, PartialEq, Eq)]
@@ -27,10 +28,13 @@ pub struct Token {
 }
 
 /// Why a text isn't cut into tokens.
-#[derive(Clone, Copy, Debug, PartialEq, Eq)]
+#[derive(Clone, Copy, Debug, PartialEq, Eq, Error)]
 pub enum TextFault {
     /// The first byte that begins no token stands at `at`.
+    #[error("no token begins at byte {at}")]
     Bad { at: u32 },
+    /// Memory ran out. Nothing is left.
+    #[error("out of memory")]
     Memory,
 }
 

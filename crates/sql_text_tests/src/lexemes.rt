@@ -87,7 +87,10 @@ fn lexemes_and_places(rt: HostRuntime) -> Result<(), Fail> {
         (b"count)", b"Other=count@0 Close@5"),
         (b"counts(", b"Other=counts@0 Open@6"),
         (b"\"count\"(", b"Quoted=count@0 Open@7"),
-        (b"sum(Min(mAx(", b"Sum(sum)@0 Open@3 Min(Min)@4 Open@7 Max(mAx)@8 Open@11"),
+        (
+            b"sum(Min(mAx(",
+            b"Sum(sum)@0 Open@3 Min(Min)@4 Open@7 Max(mAx)@8 Open@11",
+        ),
         (b"max min(", b"Other=max@0 Min(min)@4 Open@7"),
         (b"(),;.", b"Open@0 Close@1 Comma@2 Semicolon@3 Dot@4"),
         (b"* / % + -", b"Star@0 Slash@2 Percent@4 Plus@6 Minus@8"),

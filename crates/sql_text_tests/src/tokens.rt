@@ -116,7 +116,10 @@ fn numbers_signs_and_other_bytes(rt: HostRuntime) -> Result<(), Fail> {
         (b"<><=>=!=", b"s0-2 s2-4 s4-6 s6-8"),
         (b"<<>>", b"s0-1 s1-3 s3-4"),
         (b"=<", b"s0-1 s1-2"),
-        (b"(),;*/%+-", b"s0-1 s1-2 s2-3 s3-4 s4-5 s5-6 s6-7 s7-8 s8-9"),
+        (
+            b"(),;*/%+-",
+            b"s0-1 s1-2 s2-3 s3-4 s4-5 s5-6 s6-7 s7-8 s8-9",
+        ),
         (b"!", b"bad 0"),
         (b"a ! = b", b"bad 2"),
         (b"--", b"s0-1 s1-2"),
