@@ -15,15 +15,26 @@
 //! - The number that the salts start from is one that nobody can guess.
 #![tactic(auto)]
 
+mod again;
 mod disk;
 mod fault;
 mod file;
+mod folder;
+mod lock;
+mod lost;
+mod moves;
 mod names;
+mod opening;
+mod place;
 mod salts;
 mod sink;
 mod source;
+mod standard;
+mod three;
 
 pub use disk::FileDisk;
+pub use lock::LockFile;
+pub use moves::{put_to, take_from};
 pub use salts::NumberSalts;
 pub use sink::StdSink;
 pub use source::StdSource;

@@ -6,9 +6,11 @@ use disk_face::File;
 use std::alloc::{AllocError, Global};
 use std::marker::Model;
 
-/// The names of a database's three files and of its journal, which follow from one path.
+/// The path that a database is named by, and the names of its three files and of its journal. They follow from where the
+/// path leads.
 #[derive(Drop)]
 pub(crate) struct Names {
+    given: String,
     main: String,
     log1: String,
     log2: String,
@@ -22,6 +24,7 @@ impl Model for Names {
     ghost Value = { NamesState };
 
     ghost view = { λ names. record {
+      given = string_bytes names.given;
       main = string_bytes names.main;
       log1 = string_bytes names.log1;
       log2 = string_bytes names.log2;
@@ -30,15 +33,16 @@ impl Model for Names {
 }
 
 impl Names {
-    /// The names that follow from this path.
-    pub(crate) fn of(alloc: Global, path: &str) -> Result<Names, AllocError>
-        ensures { IfOk result (λ names. names ≡ names_of path.now) }
+    /// The names that follow from a path that leads to this place.
+    pub(crate) fn of(alloc: Global, path: &str, place: &str) -> Result<Names, AllocError>
+        ensures { IfOk result (λ names. names ≡ names_of path.now place.now) }
     {
         Ok(Names {
-            main: format!(in alloc; "{path}")?,
-            log1: format!(in alloc; "{path}-wal")?,
-            log2: format!(in alloc; "{path}-wal2")?,
-            journal: format!(in alloc; "{path}-journal")?,
+            given: format!(in alloc; "{path}")?,
+            main: format!(in alloc; "{place}")?,
+            log1: format!(in alloc; "{place}-wal")?,
+            log2: format!(in alloc; "{place}-wal2")?,
+            journal: format!(in alloc; "{place}-journal")?,
         })
     }
 

@@ -2,6 +2,16 @@
 #![tactic(auto)]
 
 #[cfg(test)]
+mod links;
+#[cfg(test)]
 mod memory;
 #[cfg(test)]
 mod real_files;
+#[cfg(test)]
+mod room;
+#[cfg(test)]
+mod streams;
+#[cfg(test)]
+mod watched;
+#[cfg(test)]
+mod watched_runs;
