@@ -15,15 +15,15 @@ use Rattle.page_lines.specs.declared.lines.Act.TheVariants as act
 use Rattle.page_lines.specs.declared.lines.Told.{Told}
 use Rattle.page_lines.specs.declared.lines.Told.TheVariants as told
 use Rattle.page_lines.specs.PageLines.{with_image, read_text, write_text, AreImages}
-use Rattle.engine_spec.specs.Change.{image_of}
+use Rattle.engine_spec.specs.Change.{put_pages, with_header, image_of}
 use Rattle.engine_spec.specs.Change.{laid}
 use Rattle.engine_spec.specs.History.{conflict, first_writer, or_others}
-use Rattle.engine_spec.specs.Logs.{one_more}
-use Rattle.engine_spec.specs.Seen.{commit_of}
+use Rattle.disk_face.specs.Faults.{one_more}
 use Rattle.page_lines.specs.Range.{IsInRange, AreInRange}
-use Rattle.page_lines.specs.World.{World, Outcome, SessionState, Out, Open, Refused, Transaction, changed_at, map_number, newest_map, shown, reads_with, read, write, change_of, submitted, moved, committed, decided, begin_step, read_step, write_step, commit_step, rollback_step, step, answers_to, after, world_over}
+use Rattle.engine_spec.specs.Written.{commit_of}
+use Rattle.page_lines.specs.World.{World, Outcome, SessionState, Out, Open, Refused, Transaction, changed_at, map_number, newest_map, shown, reads_with, read, write, change_of, commit_in, pages_written, moved, committed, decided, begin_step, read_step, write_step, commit_step, rollback_step, step, answers_to, after, world_over}
 use Rattle.page_lines.specs.Alike.{AreAlike, AreAlikeWorlds, BeganSince, AreAlikeSince}
-use Rattle.engine_spec.proofs.Laying.{laid-put, laid-other, put_pages-at}
+use Rattle.engine_spec.proofs.Laying.{laid-put, laid-at, put_pages-other, stamped-length}
 use Rattle.page_lines.proofs.GoodLines.{lines_whole, first_absent}
 use Rattle.engine_spec.proofs.Laying.{legal_size}
 use Rattle.page_lines.proofs.Alone.{IsStore, page-long}
@@ -81,27 +81,37 @@ same_conflict mode (page ∷ pages) n some others same =
 
 -- a page of the map that a transaction of page lines makes
 laid_at : (s : ℕ) (world : World) (transaction : Transaction) (pages : PageMap) (page : ℕ) → AreImages s transaction.changed
-    → 16 ≤ length pages
+    → 16 ≤ length pages → 2 ≤ page
     → page_at (laid pages (change_of world transaction)) page ≡ unwrap_or (image_of transaction.changed page) (page_at pages page)
-laid_at s world transaction pages page images count =
-    ap (λ (map : PageMap). page_at map page) (laid-put pages (change_of world transaction) refl)
-    ∙ put_pages-at Concurrent false pages transaction.changed 16 page images.different images.in_range count
+laid_at s world transaction pages page images count low =
+    laid-at pages (change_of world transaction) 16 page refl images.different images.in_range count low
 
 -- laid on alike maps a transaction makes alike maps
 laid_alike : (s : ℕ) (one other : World) (transaction : Transaction) (ones others : PageMap) → AreImages s transaction.changed
     → IsStore s ones → AreAlike ones others
     → AreAlike (laid ones (change_of one transaction)) (laid others (change_of other transaction))
 laid_alike s one other transaction ones others images sound alike page low high =
-    laid_at s one transaction ones page images (omega (arith, sound.store.count))
+    laid_at s one transaction ones page images (omega (arith, sound.store.count)) low
     ∙ (ap (unwrap_or (image_of transaction.changed page)) (alike page low high)
-    ∙ sym (laid_at s other transaction others page images (alike_has_pages s ones others sound alike)))
+    ∙ sym (laid_at s other transaction others page images (alike_has_pages s ones others sound alike) low))
 
--- the page size stays, whatever the map
+-- setting page 1's header fields leaves its length
+first_size : (pages : PageMap) → 100 ≤ page_size_of pages → page_size_of (with_header pages) ≡ page_size_of pages
+first_size [] long = refl
+first_size (first ∷ pages) long = stamped-length (length (first ∷ pages)) first long
+
+-- the page size stays, whatever the other pages
 laid_size : (s : ℕ) (world : World) (transaction : Transaction) (pages : PageMap) → AreImages s transaction.changed
-    → page_size_of (laid pages (change_of world transaction)) ≡ page_size_of pages
-laid_size s world transaction pages images =
+    → 100 ≤ page_size_of pages → page_size_of (laid pages (change_of world transaction)) ≡ page_size_of pages
+laid_size s world transaction pages images long =
     let change = change_of world transaction in
-    ap length (laid-other pages change 16 s 1 (lines_whole change s images refl) (first_absent transaction.changed s images))
+    let put = put_pages change.mode change.tail pages change.changed in
+    let whole = lines_whole change s images refl in
+    let same : page_at put 1 ≡ page_at pages 1 =
+    put_pages-other change.mode change.tail pages change.changed 1 (λ k d within. (whole.in_range k d within).0)
+    (first_absent transaction.changed s images) in
+    ap page_size_of (laid-put pages change refl)
+    ∙ (first_size put (subst (λ (n : ℕ). 100 ≤ n) (sym (ap length same)) long) ∙ ap length same)
 
 -- with one session's state changed, each transaction began there or later
 since_changed : (number : ℕ) (sessions : ℕ → SessionState) (session : ℕ) (state : SessionState) → BeganSince number state
@@ -146,13 +156,13 @@ begin_alike number one other session Out alike = record {
     history = alike.history;
     sessions = λ k.
         ap (λ (snap : ℕ). cond (eqb k session)
-        (Open (record { snap = snap; reads = []; changed = []; said = []; answers = []; wrote = false })) (one.sessions k))
+        (Open (record { snap = snap; reads = []; changed = []; said = []; wrote = false })) (one.sessions k))
         alike.commits
         ∙ ap (λ (old : SessionState). cond (eqb k session)
-        (Open (record { snap = length other.history; reads = []; changed = []; said = []; answers = []; wrote = false })) old)
+        (Open (record { snap = length other.history; reads = []; changed = []; said = []; wrote = false })) old)
         (alike.sessions k);
     since = since_changed number one.sessions session
-        (Open (record { snap = length one.history; reads = []; changed = []; said = []; answers = []; wrote = false }))
+        (Open (record { snap = length one.history; reads = []; changed = []; said = []; wrote = false }))
         alike.within alike.since;
     begun = λ k.
         ap (λ (count : ℕ). cond (eqb k session) (one_more count) (one.begun k)) (alike.begun session)
@@ -177,7 +187,6 @@ read_alike number one other session page (Open transaction) low high here alike 
     (moved other session (Open (record transaction {
       reads = reads_with transaction page;
       said = transaction.said ++ read_text page ∷ [];
-      answers = transaction.answers ++ told.Byte (slice_index bytes 0) ∷ [];
     })) (told.Byte (slice_index bytes 0)))) seen
     (moved_alike number one other session _ (told.Byte (slice_index (shown one transaction page) 0)) here alike)
 read_alike number one other session page (Refused transaction) low high here alike =
@@ -193,7 +202,6 @@ write_alike number one other session page byte (Open transaction) here alike =
     (moved other session (Open (record transaction {
       changed = with_image transaction.changed page (replicate size byte);
       said = transaction.said ++ write_text page byte ∷ [];
-      answers = transaction.answers ++ told.Ok ∷ [];
       wrote = true;
     })) told.Ok)) alike.page_size
     (moved_alike number one other session _ told.Ok here alike)
@@ -202,7 +210,7 @@ write_alike number one other session page byte (Refused transaction) here alike 
 
 -- the commits of the same transaction are the same
 commit_same : (one other : World) (session : ℕ) (transaction : Transaction) → one.begun session ≡ other.begun session
-    → commit_of (submitted one session transaction) ≡ commit_of (submitted other session transaction)
+    → commit_in one session transaction ≡ commit_in other session transaction
 commit_same one other session transaction begun =
     ap (λ (ordinal : ℕ). commit_of (record {
       snap = transaction.snap;
@@ -212,7 +220,7 @@ commit_same one other session transaction begun =
       wrote = transaction.wrote;
       session = session;
       ordinal = ordinal;
-    })) begun
+    }) (pages_written transaction.changed)) begun
 
 -- histories that are the same from one place on are so with the same commit more
 same_more : (number : ℕ) (some others : List Commit) (one other : Commit) → number ≤ length some → length some ≡ length others
@@ -232,9 +240,10 @@ committed_alike s number one other session transaction images may alike =
     let others = newest_map other in
     let next = laid ones (change_of one transaction) in
     let then = laid others (change_of other transaction) in
-    let first = commit_of (submitted one session transaction) in
-    let second = commit_of (submitted other session transaction) in
+    let first = commit_in one session transaction in
+    let second = commit_in other session transaction in
     let count : length other.maps ≡ length other.history + 1 = omega (arith, may.count, alike.count, alike.commits) in
+    let long : 100 ≤ page_size_of ones = omega (arith, legal_size (page_size_of ones) may.newest.store.size) in
     let newest : AreAlike ones others =
     subst (λ (k : ℕ). AreAlike (map_number one (length one.history)) (map_number other k)) alike.commits
     (alike.maps (length one.history) alike.within) in
@@ -252,7 +261,7 @@ committed_alike s number one other session transaction images may alike =
         maps = pushed_alike (λ k. number ≤ k) one.maps other.maps next then alike.count alike.maps
             (laid_alike s one other transaction ones others images may.newest newest);
         page_size = ap page_size_of (newest_is one.maps one.history next first may.count)
-            ∙ (laid_size s one transaction ones images ∙ (alike.page_size ∙ (sym (laid_size s other transaction others images)
+            ∙ (laid_size s one transaction ones images long ∙ (alike.page_size ∙ (sym (laid_size s other transaction others images (subst (λ (n : ℕ). 100 ≤ n) alike.page_size long))
             ∙ sym (ap page_size_of (newest_is other.maps other.history then second count)))));
       };
     }

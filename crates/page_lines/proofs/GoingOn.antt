@@ -13,9 +13,9 @@ use Rattle.page_lines.specs.declared.lines.Told.TheVariants as told
 use Rattle.page_lines.specs.PageLines.{AreImages}
 use Rattle.engine_spec.specs.Change.{laid}
 use Rattle.engine_spec.specs.History.{conflict}
-use Rattle.engine_spec.specs.Seen.{commit_of}
 use Rattle.page_lines.specs.Range.{IsInRange}
-use Rattle.page_lines.specs.World.{World, SessionState, Out, Open, Refused, Transaction, changed_at, newest_map, shown, change_of, submitted, moved, committed, decided, commit, begin_step, read_step, write_step, commit_step, rollback_step, step}
+use Rattle.page_lines.specs.World.{World, SessionState, Out, Open, Refused, Transaction, changed_at, newest_map, shown, change_of, commit_in, moved, committed, decided, commit, begin_step, read_step, write_step, commit_step, rollback_step, step}
+use Rattle.page_lines.specs.Exchanges.{Exchange, Accepted, snapshot_of, transaction_of}
 use Rattle.page_lines.proofs.Transactions.{none_are, with_image-are}
 use Rattle.page_lines.proofs.Alone.{IsStore}
 use Rattle.page_lines.proofs.SerialLaw.{IsHeld, IsWorld, laid_is_store, newest_store}
@@ -64,7 +64,7 @@ begin_may s world session Out may = record {
   count = may.count;
   newest = may.newest;
   images = images_changed s world.sessions session
-      (Open (record { snap = length world.history; reads = []; changed = []; said = []; answers = []; wrote = false }))
+      (Open (record { snap = length world.history; reads = []; changed = []; said = []; wrote = false }))
       (none_are s) may.images;
 }
 begin_may s world session (Open transaction) may = may
@@ -93,7 +93,7 @@ committed_may : (s : ℕ) (world : World) (session : ℕ) (transaction : Transac
     → MayGoOn s world → MayGoOn s (committed world session transaction).world
 committed_may s world session transaction images may =
     let next = laid (newest_map world) (change_of world transaction) in
-    let one = commit_of (submitted world session transaction) in
+    let one = commit_in world session transaction in
     record {
       count = omega (arith, may.count, length-append world.maps (next ∷ []), length-append world.history (one ∷ []));
       newest = subst (IsStore s) (sym (newest_is world.maps world.history next one may.count))
@@ -151,15 +151,17 @@ out_may s world count newest out = record {
 }
 
 -- what a session that is held wrote are whole pages
-held_images : (s : ℕ) (maps : List PageMap) (state : SessionState) → IsHeld s maps state → HasImages s state
-held_images s maps Out held = tt
-held_images s maps (Open transaction) held = held.1.images
-held_images s maps (Refused transaction) held = tt
+held_images : (s : ℕ) (maps : List PageMap) (snap : ℕ) (done : List Accepted) (state : SessionState) → IsHeld s maps snap done state
+    → HasImages s state
+held_images s maps snap done Out held = tt
+held_images s maps snap done (Open transaction) held = held.2.images
+held_images s maps snap done (Refused transaction) held = tt
 
 -- page lines may go on in each world that they led to
-pub world_may : (s : ℕ) (first : PageMap) (world : World) → IsWorld s first world → MayGoOn s world
-world_may s first world whole = record {
+pub world_may : (s : ℕ) (first : PageMap) (world : World) (past : List Exchange) → IsWorld s first world past → MayGoOn s world
+world_may s first world past whole = record {
   count = whole.maps_count;
-  newest = newest_store s first world whole;
-  images = λ session. held_images s world.maps (world.sessions session) (whole.held session);
+  newest = newest_store s first world past whole;
+  images = λ session. held_images s world.maps (snapshot_of session past) (transaction_of session past) (world.sessions session)
+      (whole.held session);
 }

@@ -1,8 +1,10 @@
 pub mod Transactions
+pub mod Written
 pub mod GoodLines
 pub mod Alone
 pub mod OneMore
 pub mod Ordinals
 pub mod SerialLaw
+pub mod SerialRuns
 pub mod GoingOn
 pub mod AlikeLaw

@@ -1,10 +1,11 @@
 -- Within one session the ordinals of its commits rise, whatever page lines are run.
-use Rattle.std.proofs.Common.{◌≡◌, ℕ, ◌+◌, ◌-◌, ◌^◌, ◌<◌, ◌≤◌, Bool, true, false, cond, eqb, List, [], ◌∷◌, ◌++◌, length, Some, sym, subst, ap, ◌∙◌, inl, inr, arith, length-append, eq-eqb}
+use Rattle.std.proofs.Common.{◌≡◌, ℕ, ◌+◌, ◌-◌, ◌^◌, ◌<◌, ◌≤◌, List, [], ◌∷◌, ◌++◌, length, Some, sym, subst, ap, ◌∙◌, inl, inr, arith, length-append, eq-eqb}
 use Rattle.std.specs.Prelude.{◌⊎◌, slice_get}
 use Rattle.std.proofs.lemmas.Bool.{cases_eq, cases_lt, ne_eqb}
+use Rattle.std.proofs.Math.Nat.{min-eq_left, min-eq_right, le-min, min-le_right}
 use Rattle.std.proofs.lemmas.Option.{slice_get_within}
 use Rattle.engine_spec.specs.declared.commits.Commit.{Commit}
-use Rattle.engine_spec.specs.Logs.{one_more}
+use Rattle.disk_face.specs.Faults.{one_more}
 use Rattle.page_lines.specs.World.{SessionState, Out, Open, Refused, Transaction, changed_at}
 use Rattle.page_lines.proofs.OneMore.{front_of, last_of}
 
@@ -24,6 +25,7 @@ pub record AreOrdinals (history : List Commit) (begun : ℕ → ℕ) (sessions :
       → one.entry.ordinal < other.entry.ordinal
   pub reached : (k : ℕ) (one : Commit) → slice_get history k ≡ Some one → one.entry.ordinal ≤ begun one.entry.session
   pub past : (session : ℕ) → ArePast history session (begun session) (sessions session)
+  pub counted : (session : ℕ) → begun session ≤ 2 ^ 64 - 1
 
 -- a session's state changed
 pub ordinals_moved : (history : List Commit) (begun : ℕ → ℕ) (sessions : ℕ → SessionState) (session : ℕ) (state : SessionState)
@@ -37,29 +39,35 @@ ordinals_moved history begun sessions session state here all = record {
         rw (eq-eqb number session same) (subst (λ (n : ℕ). ArePast history n (begun n) state) (sym same) here)
     | inr apart ↦ rw (ne_eqb number session apart) (all.past number)
   ];
+  counted = all.counted;
 }
 
 -- one more is more, below the last value
 one_more-above : (count : ℕ) → one_more count < 2 ^ 64 - 1 → count < one_more count
-one_more-above count = by_cases (cases_eq count (2 ^ 64 - 1))
-  where
-    by_cases : (count ≡ 2 ^ 64 - 1) ⊎ (count ≡ 2 ^ 64 - 1 → ⊥) → one_more count < 2 ^ 64 - 1 → count < one_more count
-    by_cases (inl last) = rw (eq-eqb count (2 ^ 64 - 1) last) (λ below. absurd (omega arith))
-    by_cases (inr before) = rw (ne_eqb count (2 ^ 64 - 1) before) (λ below. omega arith)
+one_more-above count below = elim (cases_lt count (2 ^ 64 - 1)) [
+  | inl low ↦ (let more : one_more count ≡ count + 1 = min-eq_left (omega arith) in omega (arith, more))
+  | inr high ↦ (let last : one_more count ≡ 2 ^ 64 - 1 = min-eq_right (omega arith) in absurd (omega (arith, last, below)))
+]
 
--- and never less
-one_more-least : (count : ℕ) → count ≤ one_more count
-one_more-least count = by_test (eqb count (2 ^ 64 - 1))
-  where
-    by_test : (test : Bool) → count ≤ cond test count (count + 1)
-    by_test true = omega arith
-    by_test false = omega arith
+-- and never less, up to it
+one_more-least : (count : ℕ) → count ≤ 2 ^ 64 - 1 → count ≤ one_more count
+one_more-least count within = le-min (omega arith) within
 
 -- a count that began one more is no less
-begun-least : (begun : ℕ → ℕ) (session number : ℕ) → begun number ≤ changed_at begun session (one_more (begun session)) number
-begun-least begun session number = elim (cases_eq number session) [
-  | inl same ↦ rw (eq-eqb number session same) (subst (λ (n : ℕ). begun n ≤ one_more (begun session)) (sym same) (one_more-least (begun session)))
+begun-least : (begun : ℕ → ℕ) (session number : ℕ) → begun session ≤ 2 ^ 64 - 1
+    → begun number ≤ changed_at begun session (one_more (begun session)) number
+begun-least begun session number within = elim (cases_eq number session) [
+  | inl same ↦ rw (eq-eqb number session same)
+      (subst (λ (n : ℕ). begun n ≤ one_more (begun session)) (sym same) (one_more-least (begun session) within))
   | inr apart ↦ rw (ne_eqb number session apart) (omega arith)
+]
+
+-- and stays within
+begun-within : (begun : ℕ → ℕ) (session number : ℕ) → begun number ≤ 2 ^ 64 - 1
+    → changed_at begun session (one_more (begun session)) number ≤ 2 ^ 64 - 1
+begun-within begun session number within = elim (cases_eq number session) [
+  | inl same ↦ rw (eq-eqb number session same) (min-le_right (begun session + 1) (2 ^ 64 - 1))
+  | inr apart ↦ rw (ne_eqb number session apart) within
 ]
 
 -- a session began a transaction
@@ -69,9 +77,9 @@ pub ordinals_begun : (history : List Commit) (begun : ℕ → ℕ) (sessions : �
 ordinals_begun history begun sessions session transaction all = record {
   rise = λ earlier later one other below is_one is_other same few.
       all.rise earlier later one other below is_one is_other same
-      (let least = begun-least begun session one.entry.session in omega arith);
+      (let least = begun-least begun session one.entry.session (all.counted session) in omega arith);
   reached = λ k one is_one.
-      (let least = begun-least begun session one.entry.session in
+      (let least = begun-least begun session one.entry.session (all.counted session) in
       let old = all.reached k one is_one in
       omega arith);
   past = λ number. elim (cases_eq number session) [
@@ -83,6 +91,7 @@ ordinals_begun history begun sessions session transaction all = record {
         omega arith)
     | inr apart ↦ rw (ne_eqb number session apart) (all.past number)
   ];
+  counted = λ number. begun-within begun session number (all.counted number);
 }
 
 -- the place of a commit in a history with one more: it is the last, or stands in the history
@@ -141,14 +150,16 @@ ordinals_committed history begun sessions commit transaction numbered past all =
         rw (ne_eqb number commit.entry.session apart)
         (past_more history commit number (begun number) (sessions number) (λ e. apart (sym e)) (all.past number))
   ];
+  counted = all.counted;
 }
 
 -- nothing has been committed
-pub ordinals_none : (begun : ℕ → ℕ) (sessions : ℕ → SessionState) → AreOrdinals [] begun sessions
-ordinals_none begun sessions = record {
+pub ordinals_none : (sessions : ℕ → SessionState) → AreOrdinals [] (λ session. 0) sessions
+ordinals_none sessions = record {
   rise = λ earlier later one other below is_one is_other same few. absurd (none_found earlier one is_one);
   reached = λ k one found. absurd (none_found k one found);
-  past = λ session. none_past session (begun session) (sessions session);
+  past = λ session. none_past session 0 (sessions session);
+  counted = λ session. omega arith;
 }
   where
     none_found : (k : ℕ) (one : Commit) → slice_get [] k ≡ Some one → ⊥

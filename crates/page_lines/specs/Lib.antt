@@ -4,4 +4,6 @@ pub mod Range
 pub mod World
 pub mod Alike
 pub mod Reply
+pub mod Exchanges
 pub mod Serial
+pub mod Legal

@@ -1,5 +1,5 @@
 -- What page lines mean as the statements of a transaction.
-use Rattle.std.specs.Prelude.{◌≡◌, ℕ, ◌≤◌, ◌==◌, if◌then◌else◌, List, [], ◌∷◌, ◌++◌, length, map, replicate, slice_index, Contains, All, Option, Some, None, unwrap_or, codes}
+use Rattle.std.specs.Prelude.{◌≡◌, ℕ, ◌≤◌, ◌==◌, if◌then◌else◌, List, [], ◌∷◌, ◌++◌, length, map, replicate, slice_index, Contains, All, unwrap_or, codes}
 use Rattle.std.specs.Fmt.{decimal}
 use Rattle.page_spec.specs.PageMap.{PageMap, page_at, page_size_of, page_sizes}
 use Rattle.engine_spec.specs.PageSet.{AreDifferent}

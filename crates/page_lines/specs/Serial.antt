@@ -1,11 +1,14 @@
--- What a run of page lines amounts to: the committed transactions ran one after another, and all others saw their snapshot.
-use Rattle.std.specs.Prelude.{◌≡◌, ℕ, ◌+◌, ◌-◌, ◌^◌, ◌<◌, ◌≤◌, List, [], ◌∷◌, ◌++◌, length, map, slice_index, slice_get, Some}
+-- What a run of page lines amounts to: the committed transactions ran one after another, and all others saw their snapshot. It is said
+-- of the acts and their answers alone.
+use Rattle.std.specs.Prelude.{◌≡◌, ℕ, ◌+◌, ◌-◌, ◌≤◌, List, [], ◌∷◌, ◌++◌, length, map, slice_index, slice_get, Some}
+use Rattle.std.specs.List.{slice_index_or}
 use Rattle.page_spec.specs.PageMap.{PageMap, page_at}
-use Rattle.engine_spec.specs.declared.commits.Commit.{Commit}
+use Rattle.engine_spec.specs.declared.commits.Receipt.TheVariants.{At, ReadOnly}
+use Rattle.page_lines.specs.declared.lines.Act.TheVariants as act
 use Rattle.page_lines.specs.declared.lines.Told.{Told}
 use Rattle.page_lines.specs.declared.lines.Told.TheVariants as told
-use Rattle.page_lines.specs.PageLines.{Statement, ReadPage, WritePage, statement_text, page_after}
-use Rattle.page_lines.specs.World.{World, SessionState, Out, Open, Refused, Transaction, map_number}
+use Rattle.page_lines.specs.PageLines.{Statement, ReadPage, WritePage, page_after}
+use Rattle.page_lines.specs.Exchanges.{Exchange, Accepted, past_of, commits_in, snapshot_of, transaction_of}
 
 -- what some statements are told that run one after another on a map, with nothing in between; those before them are given
 abbrev pub told_alone : PageMap → List Statement → List Statement → List Told
@@ -15,40 +18,32 @@ told_alone pages before (ReadPage page ∷ statements) =
 told_alone pages before (WritePage page byte ∷ statements) =
     told.Ok ∷ told_alone pages (before ++ WritePage page byte ∷ []) statements
 
--- A commit is serial: its statements were told what they would have been told alone on the map before it, and the map after it is
--- what they leave of that, on the pages that page lines speak of. It began at a snapshot before itself.
-pub record IsSerialCommit (number : ℕ) (before : PageMap) (commit : Commit) (answers : List Told) (after : PageMap) : Type 0 where
-  pub statements : List Statement
-  pub texts : commit.entry.statements ≡ map statement_text statements
-  pub replies : answers ≡ told_alone before [] statements
-  pub leaves : (page : ℕ) → 2 ≤ page → page ≤ 16 → page_at after page ≡ page_after page statements (page_at before page)
-  pub snap : commit.entry.snap ≤ number
+-- the statements of a transaction
+abbrev pub statements_in : List Accepted → List Statement
+statements_in done = map (λ one. one.statement) done
 
--- A transaction that isn't committed was told what its statements are told alone on its snapshot.
-pub record IsAtSnapshot (snapshot : PageMap) (transaction : Transaction) : Type 0 where
-  pub statements : List Statement
-  pub texts : transaction.said ≡ map statement_text statements
-  pub replies : transaction.answers ≡ told_alone snapshot [] statements
+-- a transaction was told what its statements are told alone on this map
+abbrev pub IsToldAlone : PageMap → List Accepted → Type 0
+IsToldAlone pages done = map (λ one. one.told) done ≡ told_alone pages [] (statements_in done)
 
-abbrev pub SeesSnapshot : World → SessionState → Type 0
-SeesSnapshot world Out = Unit {0}
-SeesSnapshot world (Open transaction) = IsAtSnapshot (map_number world transaction.snap) transaction
-SeesSnapshot world (Refused transaction) = IsAtSnapshot (map_number world transaction.snap) transaction
+-- Of these maps, a transaction that became the commit with this number was told what it is told alone on the map before it, and the
+-- map after it is what its statements leave of that, on the pages that page lines speak of.
+pub record IsSerialCommit (maps : List PageMap) (number : ℕ) (done : List Accepted) : Type 0 where
+  pub alone : IsToldAlone (slice_index_or maps (number - 1) []) done
+  pub leaves : (page : ℕ) → 2 ≤ page → page ≤ 16 → page_at (slice_index_or maps number []) page
+      ≡ page_after page (statements_in done) (page_at (slice_index_or maps (number - 1) []) page)
 
--- Serial order: each commit in turn, and each transaction that is open or was refused. The ordinals of one session's commits rise,
--- as long as its count of transactions begun isn't at its last value, 2^64 - 1.
-pub record IsSerial (world : World) : Type 0 where
-  pub commits : (number : ℕ) (before after : PageMap) (commit : Commit) (answers : List Told)
-      → slice_get world.maps number ≡ Some before → slice_get world.history number ≡ Some commit
-      → slice_get world.answers number ≡ Some answers → slice_get world.maps (number + 1) ≡ Some after
-      → IsSerialCommit number before commit answers after
-  pub counts : (length world.maps ≡ length world.history + 1) × (length world.answers ≡ length world.history)
-  pub others : (session : ℕ) → SeesSnapshot world (world.sessions session)
-  pub ordinals : (earlier later : ℕ) (one other : Commit) → earlier < later → slice_get world.history earlier ≡ Some one
-      → slice_get world.history later ≡ Some other → one.entry.session ≡ other.entry.session
-      → world.begun one.entry.session < 2 ^ 64 - 1 → one.entry.ordinal < other.entry.ordinal
-
--- Serial order from a first map: the commits ran one after another from there.
-pub record IsSerialFrom (first : PageMap) (world : World) : Type 0 where
-  pub begins : slice_get world.maps 0 ≡ Some first
-  pub serial : IsSerial world
+-- A run is serial from a first map: there are maps, that one and then one after each commit, such that each COMMIT has the next number
+-- and its transaction is serial as that commit; and at each moment each session was told since its last BEGIN what its statements are
+-- told alone on its snapshot, which is what a COMMIT that wrote nothing names.
+pub record IsSerial (first : PageMap) (run : List Exchange) : Type 0 where
+  pub maps : List PageMap
+  pub begins : slice_get maps 0 ≡ Some first
+  pub count : length maps ≡ commits_in run + 1
+  pub commits : (moment session number : ℕ) → slice_get run moment ≡ Some (record { act = act.Commit session; told = told.Done (At number) })
+      → (number ≡ commits_in (past_of run moment) + 1) × IsSerialCommit maps number (transaction_of session (past_of run moment))
+  pub snapshots : (moment session : ℕ)
+      → IsToldAlone (slice_index_or maps (snapshot_of session (past_of run moment)) []) (transaction_of session (past_of run moment))
+  pub read_only : (moment session number : ℕ)
+      → slice_get run moment ≡ Some (record { act = act.Commit session; told = told.Done (ReadOnly number) })
+      → number ≡ snapshot_of session (past_of run moment)

@@ -1,5 +1,5 @@
 -- The run of page lines over whole page maps: the world as it stands, and what one act does to it and is answered.
-use Rattle.std.specs.Prelude.{ℕ, ◌+◌, Bool, true, false, ◌==◌, if◌then◌else◌, List, [], ◌∷◌, ◌++◌, length, slice_index, replicate, Option, Some, None, unwrap_or}
+use Rattle.std.specs.Prelude.{ℕ, ◌+◌, Bool, true, false, ◌==◌, if◌then◌else◌, List, [], ◌∷◌, ◌++◌, length, map, slice_index, replicate, Option, Some, None, unwrap_or}
 use Rattle.std.specs.List.{slice_index_or}
 use Rattle.page_spec.specs.PageMap.{PageMap, page_at, page_size_of}
 use Rattle.engine_spec.specs.declared.commits.PageImage.{PageImage}
@@ -13,20 +13,20 @@ use Rattle.page_lines.specs.declared.lines.Told.TheVariants as told
 use Rattle.page_lines.specs.PageLines.{with_image, read_text, write_text}
 use Rattle.engine_spec.specs.Change.{image_of}
 use Rattle.engine_spec.specs.Change.{Change, laid}
-use Rattle.engine_spec.specs.PageSet.{with_page}
+use Rattle.engine_spec.specs.PageSet.{with_page, with_pages}
 use Rattle.engine_spec.specs.History.{conflict}
 use Rattle.engine_spec.specs.declared.commits.Commit.{Commit}
-use Rattle.engine_spec.specs.Logs.{told_logs, one_more}
-use Rattle.engine_spec.specs.Seen.{Submitted, commit_of}
+use Rattle.disk_face.specs.Faults.{one_more}
+use Rattle.engine_spec.specs.TwoLogs.{told_logs}
+use Rattle.engine_spec.specs.Written.{Submitted, commit_of}
 
 -- A transaction of page lines: its snapshot, the pages that it read there, the pages that it wrote, newest last, the texts of its
--- accepted reads and writes, what these were answered, and whether one was a write.
+-- accepted reads and writes, and whether one was a write.
 pub record Transaction : Type 0 where
   pub snap : ℕ
   pub reads : List ℕ
   pub changed : List PageImage
   pub said : List (List ℕ)
-  pub answers : List Told
   pub wrote : Bool
 
 -- A session is out of a transaction, in one, or in one whose COMMIT was refused because of a later commit.
@@ -35,12 +35,11 @@ pub data SessionState : Type 0 where
   Open : Transaction → SessionState
   Refused : Transaction → SessionState
 
--- The world: the page maps, first the one at the start and then the one after each commit, the commits, what the statements of
--- each commit were answered, how each session stands, and how many transactions it has begun.
+-- The world: the page maps, first the one at the start and then the one after each commit, the commits, how each session stands, and
+-- how many transactions it has begun.
 pub record World : Type 0 where
   pub maps : List PageMap
   pub history : List Commit
-  pub answers : List (List Told)
   pub sessions : ℕ → SessionState
   pub begun : ℕ → ℕ
 
@@ -82,7 +81,6 @@ begin world session = record {
       reads = [];
       changed = [];
       said = [];
-      answers = [];
       wrote = false;
     }));
     begun = changed_at world.begun session (one_more (world.begun session));
@@ -107,7 +105,6 @@ read world session transaction page = let byte = told.Byte (slice_index (shown w
     moved world session (Open (record transaction {
       reads = reads_with transaction page;
       said = transaction.said ++ read_text page ∷ [];
-      answers = transaction.answers ++ byte ∷ [];
     })) byte
 
 -- WRITE p b, in a transaction: every byte of the page is set
@@ -116,7 +113,6 @@ write world session transaction page byte =
     moved world session (Open (record transaction {
       changed = with_image transaction.changed page (replicate (page_size_of (newest_map world)) byte);
       said = transaction.said ++ write_text page byte ∷ [];
-      answers = transaction.answers ++ told.Ok ∷ [];
       wrote = true;
     })) told.Ok
 
@@ -143,14 +139,21 @@ submitted world session transaction = record {
   ordinal = world.begun session;
 }
 
+-- the pages that a commit of page lines writes, in rising order: page 1, whose header fields every commit sets, and the changed pages
+abbrev pub pages_written : List PageImage → List ℕ
+pages_written images = with_pages (1 ∷ []) (map (λ image. image.page) images)
+
+-- the commit that a transaction of page lines becomes
+abbrev pub commit_in : World → ℕ → Transaction → Commit
+commit_in world session transaction = commit_of (submitted world session transaction) (pages_written transaction.changed)
+
 -- COMMIT that nothing bars: one commit and one map more
 abbrev pub committed : World → ℕ → Transaction → Outcome
 committed world session transaction = record {
   told = told.Done (At (length world.history + 1));
   world = record world {
     maps = world.maps ++ laid (newest_map world) (change_of world transaction) ∷ [];
-    history = world.history ++ commit_of (submitted world session transaction) ∷ [];
-    answers = world.answers ++ transaction.answers ∷ [];
+    history = world.history ++ commit_in world session transaction ∷ [];
     sessions = changed_at world.sessions session Out;
   };
 }
@@ -201,7 +204,7 @@ step world (act.Commit session) = commit_step world session (world.sessions sess
 step world (act.Rollback session) = rollback_step world session (world.sessions session)
 step world act.Copy = same world (told.Ckpt checkpoint.Idle)
 step world act.Step = same world (told.Ckpt checkpoint.Idle)
-step world act.Logs = same world (told.Logs (told_logs None))
+step world act.Logs = same world (told.Logs (told_logs None world.history))
 
 -- what a list of acts is answered
 abbrev pub answers_to : World → List Act → List Told
@@ -218,7 +221,6 @@ abbrev pub world_over : PageMap → World
 world_over pages = record {
   maps = pages ∷ [];
   history = [];
-  answers = [];
   sessions = λ session. Out;
   begun = λ session. 0;
 }
