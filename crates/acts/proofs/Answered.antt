@@ -1,5 +1,5 @@
 -- A run of page lines over an engine that rests at a world is answered as the run over whole page maps is.
-use Rattle.std.proofs.Common.{◌≡◌, ℕ, ◌+◌, ◌<◌, ◌≤◌, List, [], ◌∷◌, ◌++◌, length, take, get_or, Option, Some, None, refl, sym, subst, ap, ◌∙◌, inl, inr, arith, length-append}
+use Rattle.std.proofs.Common.{◌≡◌, ℕ, ◌+◌, ◌<◌, ◌≤◌, true, List, [], ◌∷◌, ◌++◌, length, take, get_or, Option, Some, None, refl, sym, subst, ap, ◌∙◌, inl, inr, arith, length-append}
 use Rattle.std.specs.Prelude.{◌⊎◌}
 use Rattle.std.proofs.lemmas.Bool.{cases_lt}
 use Rattle.std.proofs.lemmas.List.{length-take-le, get_or_push}
@@ -11,29 +11,29 @@ use Rattle.page_lines.specs.declared.lines.Act.{Act}
 use Rattle.page_lines.specs.declared.lines.Told.{Told}
 use Rattle.page_lines.specs.PageLines.{IsPageStore}
 use Rattle.page_lines.specs.Range.{IsInRange, AreInRange}
-use Rattle.engine_spec.specs.Seen.{Seen}
+use Rattle.crash_spec.specs.Opening.{Opening}
+use Rattle.engine_spec.specs.State.{EngineState}
 use Rattle.page_lines.specs.World.{World, newest_map, step, answers_to, world_over}
 use Rattle.page_lines.specs.Alike.{AreAlike, AreAlikeSince}
 use Rattle.page_lines.proofs.Alone.{IsStore, page-long}
 use Rattle.page_lines.proofs.AlikeLaw.{since_answers, out_since}
 use Rattle.page_lines.proofs.GoingOn.{out_may}
-use Rattle.memory_engine.specs.Plain.{PlainState, newest_of, plain_seen}
 use Rattle.acts.specs.declared.seats.Seat.{Seat}
 use Rattle.acts.specs.declared.seats.State.TheVariants as seat
 use Rattle.acts.specs.Pagers.{Between, Plays, AreSound}
 use Rattle.acts.specs.Playing.{RestsAt, IsWithoutLogs, IsOfSession, AreSessions, HasNoLimit, HaveNoLimit}
-use Rattle.acts.specs.InMemory.{Matches, StandsAt}
+use Rattle.acts.specs.Standing.{Matches, StandsAt}
 use Rattle.acts.proofs.Growth.{GoesOn, acts_go, plays_go}
 use Rattle.acts.proofs.Soundness.{acts_sound}
 use Rattle.acts.proofs.Standing.{MindsNoLogs}
 use Rattle.acts.proofs.StandingActs.{acts_stand}
 
 -- there are no logs, or else the acts are of sessions and met no limit
-abbrev pub MindNoLogs : Seen → List Act → List Told → Type 0
+abbrev pub MindNoLogs : EngineState → List Act → List Told → Type 0
 MindNoLogs seen acts answers = IsWithoutLogs seen ⊎ (AreSessions acts × HaveNoLimit answers)
 
 -- so it is of the first act
-minds_first : (seen : Seen) (one : Act) (acts : List Act) (answer : Told) (answers : List Told)
+minds_first : (seen : EngineState) (one : Act) (acts : List Act) (answer : Told) (answers : List Told)
     → MindNoLogs seen (one ∷ acts) (answer ∷ answers) → MindsNoLogs seen one answer
 minds_first seen one acts answer answers minds = elim minds [
   | inl none ↦ inl none
@@ -41,7 +41,7 @@ minds_first seen one acts answer answers minds = elim minds [
 ]
 
 -- and of the others
-minds_others : (seen mid : Seen) (one : Act) (acts : List Act) (answer : Told) (answers : List Told) → (seen.logs ≡ None → mid.logs ≡ None)
+minds_others : (seen mid : EngineState) (one : Act) (acts : List Act) (answer : Told) (answers : List Told) → (seen.logs ≡ None → mid.logs ≡ None)
     → MindNoLogs seen (one ∷ acts) (answer ∷ answers) → MindNoLogs mid acts answers
 minds_others seen mid one acts answer answers stays minds = elim minds [
   | inl none ↦ inl (stays none)
@@ -64,19 +64,19 @@ rose_then old mid new more rose = record {
 }
 
 -- Acts over an engine that is alone and stands at a world are answered as the world is, one after another.
-plays_answered : (alone free : Type 0) (old : Seen) (maps : Pin → Option PageMap) (seats : List Seat) (acts : List Act)
-    (answers : List Told) (new : Seen) (world : World) → alone → AreInRange acts → StandsAt old maps seats world
+plays_answered : (opened : Opening → Type 0) (old : EngineState) (maps : Pin → Option PageMap) (seats : List Seat) (acts : List Act)
+    (answers : List Told) (new : EngineState) (world : World) → old.alone ≡ true → AreInRange acts → StandsAt old maps seats world
     → AreSound old.page_size seats → (Rose old.faults new.faults → ⊥) → MindNoLogs old acts answers
-    → Plays alone free old maps seats acts answers new → answers ≡ answers_to world acts
-plays_answered alone free old maps seats [] [] new world here range stands sound quiet minds plays = refl
-plays_answered alone free old maps seats [] (answer ∷ answers) new world here range stands sound quiet minds never = absurd never
-plays_answered alone free old maps seats (one ∷ acts) [] new world here range stands sound quiet minds never = absurd never
-plays_answered alone free old maps seats (one ∷ acts) (answer ∷ answers) new world here range stands sound quiet minds
+    → Plays opened old maps seats acts answers new → answers ≡ answers_to world acts
+plays_answered opened old maps seats [] [] new world here range stands sound quiet minds plays = refl
+plays_answered opened old maps seats [] (answer ∷ answers) new world here range stands sound quiet minds never = absurd never
+plays_answered opened old maps seats (one ∷ acts) [] new world here range stands sound quiet minds never = absurd never
+plays_answered opened old maps seats (one ∷ acts) (answer ∷ answers) new world here range stands sound quiet minds
     (mid, maps_then, seats_then, acted, keeps, rest) =
     let engine : Between =
-    record { alone = alone; free = free; old = old; new = mid; map_before = maps; map_after = maps_then } in
-    let goes : GoesOn alone old mid = acts_go alone free old mid maps maps_then seats one answer seats_then acted in
-    let others : GoesOn alone mid new = plays_go alone free mid maps_then seats_then acts answers new rest in
+    record { opened = opened; old = old; new = mid; map_before = maps; map_after = maps_then } in
+    let goes : GoesOn old mid = acts_go opened old mid maps maps_then seats one answer seats_then acted in
+    let others : GoesOn mid new = plays_go opened mid maps_then seats_then acts answers new rest in
     let leads = acts_stand engine seats seats_then world one answer (record {
       alone = here;
       stands = stands;
@@ -89,12 +89,12 @@ plays_answered alone free old maps seats (one ∷ acts) (answer ∷ answers) new
     (acts_sound engine seats seats_then one answer (omega (arith, stands.tells.size)) (All-head IsInRange one acts range) sound acted) in
     ap (λ (told : Told). told ∷ answers) leads.0
     ∙ ap (λ (told : List Told). (step world one).told ∷ told)
-    (plays_answered alone free mid maps_then seats_then acts answers new (step world one).world here (All-tail IsInRange one acts range)
+    (plays_answered opened mid maps_then seats_then acts answers new (step world one).world (goes.alone ∙ here) (All-tail IsInRange one acts range)
     leads.1 sound_then (λ rose. quiet (rose_then old.faults mid.faults new.faults goes.grew.faults rose))
-    (minds_others old mid one acts answer answers (goes.no_logs here) minds) rest)
+    (minds_others old mid one acts answer answers goes.no_logs minds) rest)
 
 -- the world with the engine's own commits and newest map
-resting : Seen → World → PageMap → World
+resting : EngineState → World → PageMap → World
 resting seen world pages = record world {
   history = seen.history;
   maps = take (length seen.history) world.maps ++ pages ∷ [];
@@ -116,16 +116,16 @@ alike_size one other store other_store alike =
     ∙ page-long (page_size_of other) other 2 (record { store = other_store; size = refl }) (omega arith) (omega arith)
 
 -- the world has a map for each of the engine's commits
-enough_maps : (seen : Seen) (world : World) → RestsAt seen world → length seen.history ≤ length world.maps
+enough_maps : (seen : EngineState) (world : World) → RestsAt seen world → length seen.history ≤ length world.maps
 enough_maps seen world rests = omega (arith, rests.commits, rests.count)
 
 -- the engine's own map is the newest there
-resting_newest : (seen : Seen) (world : World) (rests : RestsAt seen world) → newest_map (resting seen world rests.pages) ≡ rests.pages
+resting_newest : (seen : EngineState) (world : World) (rests : RestsAt seen world) → newest_map (resting seen world rests.pages) ≡ rests.pages
 unfolding resting
 resting_newest seen world rests = last_is world.maps (length seen.history) rests.pages (enough_maps seen world rests)
 
 -- An engine that rests at a world stands at the one with its own commits and newest map, as long as no session has acted.
-rests_stand : (seen : Seen) (map_at : Pin → Option PageMap) (world : World) (rests : RestsAt seen world)
+rests_stand : (seen : EngineState) (map_at : Pin → Option PageMap) (world : World) (rests : RestsAt seen world)
     → StandsAt seen map_at [] (resting seen world rests.pages)
 unfolding resting
 rests_stand seen map_at world rests =
@@ -146,7 +146,7 @@ rests_stand seen map_at world rests =
     }
 
 -- from its newest map on the two worlds are alike
-rests_alike : (seen : Seen) (world : World) (rests : RestsAt seen world)
+rests_alike : (seen : EngineState) (world : World) (rests : RestsAt seen world)
     → AreAlikeSince (length seen.history) (resting seen world rests.pages) world
 unfolding resting
 rests_alike seen world rests =
@@ -158,14 +158,14 @@ rests_alike seen world rests =
     (ap page_size_of newest ∙ alike_size rests.pages (newest_map world) rests.store rests.world_store rests.alike)
 
 -- A run over an engine that is alone and rests at a world, and that counts no fault, is answered as the run over whole page maps.
-pub rests_answered : (alone free : Type 0) (old : Seen) (maps : Pin → Option PageMap) (acts : List Act) (answers : List Told) (new : Seen)
-    (world : World) → alone → AreInRange acts → RestsAt old world → (Rose old.faults new.faults → ⊥) → MindNoLogs old acts answers
-    → Plays alone free old maps [] acts answers new → answers ≡ answers_to world acts
+pub rests_answered : (opened : Opening → Type 0) (old : EngineState) (maps : Pin → Option PageMap) (acts : List Act) (answers : List Told) (new : EngineState)
+    (world : World) → old.alone ≡ true → AreInRange acts → RestsAt old world → (Rose old.faults new.faults → ⊥) → MindNoLogs old acts answers
+    → Plays opened old maps [] acts answers new → answers ≡ answers_to world acts
 unfolding resting
-rests_answered alone free old maps acts answers new world here range rests quiet minds plays =
+rests_answered opened old maps acts answers new world here range rests quiet minds plays =
     let own = resting old world rests.pages in
     let s = page_size_of rests.pages in
-    plays_answered alone free old maps [] acts answers new own here range (rests_stand old maps world rests)
+    plays_answered opened old maps [] acts answers new own here range (rests_stand old maps world rests)
     (λ k d within. absurd (omega arith)) quiet minds plays
     ∙ since_answers s (length old.history) own world acts range
     (out_may s own (count_last world.maps (length old.history) rests.pages (enough_maps old world rests))
@@ -173,7 +173,7 @@ rests_answered alone free old maps acts answers new world here range rests quiet
     (rests_alike old world rests)
 
 -- An engine to which nothing was committed yet rests at the world over any page store with its pages 2 to 16.
-pub rests_over : (seen : Seen) (own pages : PageMap) → seen.history ≡ [] → seen.newest ≡ Some own → seen.size ≡ 16
+pub rests_over : (seen : EngineState) (own pages : PageMap) → seen.history ≡ [] → seen.newest ≡ Some own → seen.size ≡ 16
     → seen.page_size ≡ page_size_of own → seen.stopped ≡ None → IsPageStore own → IsPageStore pages → AreAlike own pages
     → RestsAt seen (world_over pages)
 rests_over seen own pages history newest size page_size running own_store store alike = record {
@@ -191,22 +191,14 @@ rests_over seen own pages history newest size page_size running own_store store 
   none_begun = λ session. refl;
 }
 
--- So does a new engine in memory.
-pub plain_rests : (plain : PlainState) (pages : PageMap) → plain.maps ≡ pages ∷ [] → plain.history ≡ []
-    → plain.page_size ≡ page_size_of pages → IsPageStore pages → RestsAt (plain_seen plain) (world_over pages)
-plain_rests plain pages maps history page_size store =
-    let newest : newest_of plain ≡ pages = rw (maps, history) refl in
-    rests_over (plain_seen plain) pages pages history (ap Some newest) (ap length newest ∙ store.count) page_size refl store store
-    (λ page low high. refl)
-
 -- Two engines that are alone and rest at one world are answered alike, whatever each keeps beside it.
-pub same_answers : (alone free alone_too free_too : Type 0) (one other : Seen) (maps maps_too : Pin → Option PageMap) (acts : List Act)
-    (answers answers_too : List Told) (one_then other_then : Seen) (world : World) → alone → alone_too → AreInRange acts
+pub same_answers : (opened opened_too : Opening → Type 0) (one other : EngineState) (maps maps_too : Pin → Option PageMap) (acts : List Act)
+    (answers answers_too : List Told) (one_then other_then : EngineState) (world : World) → one.alone ≡ true → other.alone ≡ true → AreInRange acts
     → RestsAt one world → RestsAt other world → (Rose one.faults one_then.faults → ⊥) → (Rose other.faults other_then.faults → ⊥)
     → MindNoLogs one acts answers → MindNoLogs other acts answers_too
-    → Plays alone free one maps [] acts answers one_then → Plays alone_too free_too other maps_too [] acts answers_too other_then
+    → Plays opened one maps [] acts answers one_then → Plays opened_too other maps_too [] acts answers_too other_then
     → answers ≡ answers_too
-same_answers alone free alone_too free_too one other maps maps_too acts answers answers_too one_then other_then world here here_too range
+same_answers opened opened_too one other maps maps_too acts answers answers_too one_then other_then world here here_too range
     rests rests_too quiet quiet_too minds minds_too plays plays_too =
-    rests_answered alone free one maps acts answers one_then world here range rests quiet minds plays
-    ∙ sym (rests_answered alone_too free_too other maps_too acts answers_too other_then world here_too range rests_too quiet_too minds_too plays_too)
+    rests_answered opened one maps acts answers one_then world here range rests quiet minds plays
+    ∙ sym (rests_answered opened_too other maps_too acts answers_too other_then world here_too range rests_too quiet_too minds_too plays_too)

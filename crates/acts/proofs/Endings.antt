@@ -1,14 +1,14 @@
 -- How the pins of all sessions are given back, one after another.
-use Rattle.std.proofs.Common.{◌≡◌, ℕ, ◌+◌, ◌<◌, List, [], ◌∷◌, ◌++◌, length, get_or, drop, Option, suc, sym, subst, ap, ◌∙◌, arith, inl, inr, drop-cons}
+use Rattle.std.proofs.Common.{◌≡◌, ℕ, ◌+◌, ◌<◌, List, [], ◌∷◌, ◌++◌, length, get_or, drop, suc, sym, subst, ap, ◌∙◌, arith, inl, inr, drop-cons}
 use Rattle.std.specs.Prelude.{Contains}
 use Rattle.std.proofs.lemmas.List.{get_or_default}
 use Rattle.std.proofs.lemmas.List.Elements.{Contains-append_left, Contains-append_right, Contains-append_cases}
-use Rattle.page_spec.specs.PageMap.{PageMap}
 use Rattle.engine_spec.specs.declared.pins.Pin.{Pin}
-use Rattle.engine_spec.specs.Seen.{Seen}
+use Rattle.engine_spec.specs.State.{EngineState}
+use Rattle.page_face.specs.declared.engine_tells.EngineTells.{Ghosts}
 use Rattle.acts.specs.declared.seats.Seat.{Seat}
 use Rattle.acts.specs.Pagers.{pins_in, pins_of, EndsAll}
-use Rattle.acts.specs.Turns.{AllLive, Stays}
+use Rattle.acts.specs.Turns.{AllLive, SwapsPins}
 use Rattle.acts.proofs.Seatings.{wider}
 
 -- the pins from one seat on
@@ -21,11 +21,11 @@ pins_drop seats i seat within item =
     ∙ ap (λ (k : ℕ). pins_in seat.state ++ pins_of (drop k seats)) next)
 
 -- some pins are given back, and then others
-ends_both : (some others : List Pin) (old mid new : Seen) → EndsAll some old mid → EndsAll others mid new → EndsAll (some ++ others) old new
-ends_both [] others old mid new same rest = subst (λ (seen : Seen). EndsAll others seen new) same rest
+ends_both : (some others : List Pin) (old mid new : EngineState) → EndsAll some old mid → EndsAll others mid new → EndsAll (some ++ others) old new
+ends_both [] others old mid new same rest = subst (λ (seen : EngineState). EndsAll others seen new) same rest
 ends_both (pin ∷ some) others old mid new (first, ends, more) rest = (first, ends, ends_both some others first mid new more rest)
 
-pub ends_from : (seats : List Seat) (i : ℕ) (seat : Seat) (old mid new : Seen) → i < length seats → seat ≡ get_or seats i seat
+pub ends_from : (seats : List Seat) (i : ℕ) (seat : Seat) (old mid new : EngineState) → i < length seats → seat ≡ get_or seats i seat
     → EndsAll (pins_in seat.state) old mid → EndsAll (pins_of (drop (i + 1) seats)) mid new → EndsAll (pins_of (drop i seats)) old new
 ends_from seats i seat old mid new within item some rest =
     subst (λ (pins : List Pin). EndsAll pins old new) (sym (pins_drop seats i seat within item))
@@ -56,31 +56,30 @@ among front some rest back pin there = elim (Contains-append_cases front (rest +
 ]
 
 -- What stays where some pins became others, of which the first were then given back.
-through : {E : Type 0} (seen : E → Seen) (live : E → List Pin → Type 0) (map_at : E → Pin → Option PageMap)
-    (begins : E → PageMap → Type 0) (free alone : E → Type 0) (loans : E → List ℕ) (old mid new : E) (olds some rest : List Pin)
-    → Stays seen live map_at begins free alone loans old olds mid (some ++ rest)
-    → Stays seen live map_at begins free alone loans mid (some ++ rest) new rest
-    → Stays seen live map_at begins free alone loans old olds new rest
-through seen live map_at begins free alone loans old mid new olds some rest first then = record {
+through : {E M : Type 0} (told : Ghosts E M) (old mid new : E) (olds some rest : List Pin)
+    → SwapsPins told old olds mid (some ++ rest)
+    → SwapsPins told mid (some ++ rest) new rest
+    → SwapsPins told old olds new rest
+through told old mid new olds some rest first then = record {
   holds = λ front back lives. then.holds front back (first.holds front back lives);
   maps = λ front back pin lives was is.
       then.maps front back pin (first.holds front back lives) (among front some rest back pin is) is
       ∙ first.maps front back pin lives was (among front some rest back pin is);
   runs = λ one begun. then.runs one (first.runs one begun);
-  is_free = λ free. then.is_free (first.is_free free);
-  is_alone = λ alone. then.is_alone (first.is_alone alone);
-  references = then.references ∙ first.references;
+  opened = λ one is. then.opened one (first.opened one is);
+  loans = then.loans ∙ first.loans;
+  always_begins = then.always_begins ∙ first.always_begins;
+  alone = then.alone ∙ first.alone;
   pages = (let a = first.pages in let b = then.pages in omega arith);
   page_size = then.page_size ∙ first.page_size;
 }
 
-pub stays_from : {E : Type 0} (seen : E → Seen) (live : E → List Pin → Type 0) (map_at : E → Pin → Option PageMap)
-    (begins : E → PageMap → Type 0) (free alone : E → Type 0) (loans : E → List ℕ) (old mid new : E) (olds : List Pin)
+pub stays_from : {E M : Type 0} (told : Ghosts E M) (old mid new : E) (olds : List Pin)
     (seats : List Seat) (i : ℕ) (seat : Seat) → i < length seats → seat ≡ get_or seats i seat
-    → Stays seen live map_at begins free alone loans old olds mid (pins_of (drop i seats))
-    → Stays seen live map_at begins free alone loans mid (pins_in seat.state) new []
-    → Stays seen live map_at begins free alone loans old olds new (pins_of (drop (i + 1) seats))
-stays_from seen live map_at begins free alone loans old mid new olds seats i seat within item first then =
-    through seen live map_at begins free alone loans old mid new olds (pins_in seat.state) (pins_of (drop (i + 1) seats))
-    (subst (λ (pins : List Pin). Stays seen live map_at begins free alone loans old olds mid pins) (pins_drop seats i seat within item) first)
-    (wider seen live map_at begins free alone loans mid (pins_in seat.state) new [] [] (pins_of (drop (i + 1) seats)) then)
+    → SwapsPins told old olds mid (pins_of (drop i seats))
+    → SwapsPins told mid (pins_in seat.state) new []
+    → SwapsPins told old olds new (pins_of (drop (i + 1) seats))
+stays_from told old mid new olds seats i seat within item first then =
+    through told old mid new olds (pins_in seat.state) (pins_of (drop (i + 1) seats))
+    (subst (λ (pins : List Pin). SwapsPins told old olds mid pins) (pins_drop seats i seat within item) first)
+    (wider told mid (pins_in seat.state) new [] [] (pins_of (drop (i + 1) seats)) then)

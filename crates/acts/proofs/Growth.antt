@@ -1,7 +1,8 @@
 -- What was done where others keep away is done where they may, and what an engine tells goes on through each act.
-use Rattle.std.proofs.Common.{◌≡◌, ℕ, ◌≤◌, List, [], ◌∷◌, ◌++◌, Option, Some, None, sym, ap, ◌∙◌, inl, inr, arith, append_assoc}
+use Rattle.std.proofs.Common.{◌≡◌, ℕ, ◌≤◌, List, [], ◌∷◌, ◌++◌, Option, Some, None, sym, refl, subst, ap, ◌∙◌, Bool, true, false, cond, ◌&&◌, is_some, inl, inr, arith, append_assoc}
 use Rattle.std.specs.Option.{option_map}
 use Rattle.std.proofs.lemmas.List.{append-nil}
+use Rattle.std.proofs.lemmas.Bool.{true≢false}
 use Rattle.page_spec.specs.PageMap.{PageMap}
 use Rattle.engine_spec.specs.declared.pins.Pin.{Pin}
 use Rattle.engine_spec.specs.declared.pins.Ckpt.{Ckpt}
@@ -14,105 +15,151 @@ use Rattle.engine_spec.specs.declared.commits.Receipt.{Receipt}
 use Rattle.engine_spec.specs.declared.commits.Receipt.TheVariants.{At, ReadOnly}
 use Rattle.engine_spec.specs.declared.commits.Commit.{Commit}
 use Rattle.engine_spec.specs.declared.commits.CommitFault.TheVariants as fault
-use Rattle.engine_spec.specs.Logs.{LogState, before_frames, with_frames}
-use Rattle.engine_spec.specs.Seen.{Seen, Stop, Found, Later, Begins, Ends, Fails, OnlyFaults, Submitted, Accepts, Refuses, Checkpoints, commit_of, with_reader, without_reader, written}
+use Rattle.engine_spec.specs.declared.pins.Lock.{Lock}
+use Rattle.engine_spec.specs.declared.pins.Readers.{Readers}
+use Rattle.disk_face.specs.Steps.{History}
+use Rattle.crash_spec.specs.Opening.{Opening}
+use Rattle.engine_spec.specs.TwoLogs.{TwoLogs, one_fewer, change_readers, to_write}
+use Rattle.disk_face.specs.Faults.{one_more}
+use Rattle.engine_spec.specs.State.{EngineState, Stop, Later, During}
+use Rattle.engine_spec.specs.Leaves.{AtEach}
+use Rattle.engine_spec.specs.Written.{Submitted, commit_of}
+use Rattle.engine_spec.specs.Events.{Begins, Ends, FailsAlone, FailsInStep, AcceptsCommit, Checkpoints, StopsAt, with_readers}
 use Rattle.acts.specs.declared.seats.Seat.{Seat}
 use Rattle.acts.specs.declared.seats.State.{State}
 use Rattle.acts.specs.declared.seats.State.TheVariants.{Out, Open, Refused}
 use Rattle.acts.specs.declared.seats.Transaction.{Transaction}
-use Rattle.acts.specs.Pagers.{Between, Acts, BeginActs, ReadActs, ReadOpen, WriteActs, CommitActs, CommitOpen, RollbackActs, StepActs, Copies, Grew, EndsAll, Plays, pins_of, state_of, submitted_of}
+use Rattle.acts.specs.Pagers.{Refuses, Acts, BeginActs, ReadActs, ReadOpen, WriteActs, CommitActs, CommitOpen, RollbackActs, StepActs, Copies, Grew, EndsAll, Plays, pins_of, state_of, submitted_of}
 use Rattle.engine_spec.specs.Change.{image_of}
 
--- Later under weaker premises
-later_under : (alone free alone_then free_then : Type 0) (old new : Seen) → (alone → alone_then) → (free → free_then)
-    → Later alone_then free_then old new → Later alone free old new
-later_under alone free alone_then free_then old new alone_stays free_stays later = record {
-  more = later.more;
-  grown = later.grown;
-  own = later.own;
-  told = later.told;
-  size = later.size;
-  stopped = later.stopped;
-  faults = later.faults;
-  page_size = later.page_size;
-  usable = later.usable;
-  logs = λ free. later.logs (free_stays free);
-  nobody = λ alone. later.nobody (alone_stays alone);
+-- What was promised for some openings is promised for fewer.
+at_under : (opened opened_then : Opening → Type 0) → ((one : Opening) → opened one → opened_then one) → (maps : List PageMap)
+    (old new : Option History) → AtEach opened_then maps old new → AtEach opened maps old new
+at_under opened opened_then keeps maps old new at = λ one is. at one (keeps one is)
+
+accepts_under : (opened opened_then : Opening → Type 0) → ((one : Opening) → opened one → opened_then one) → (before : EngineState)
+    (asked : Submitted) (receipt : Receipt) (after : EngineState) → AcceptsCommit opened_then before asked receipt after
+    → AcceptsCommit opened before asked receipt after
+accepts_under opened opened_then keeps before asked (ReadOnly n) after accepts = accepts
+accepts_under opened opened_then keeps before asked (At number) after accepts = record {
+  clear = accepts.clear;
+  number_is = accepts.number_is;
+  pages = accepts.pages;
+  wrote = accepts.wrote;
+  moments = at_under opened opened_then keeps _ before.disk after.disk accepts.moments;
+  after_is = accepts.after_is;
 }
 
--- what happens between two moments of an engine
-between : Type 0 → Type 0 → Seen → Seen → (Pin → Option PageMap) → (Pin → Option PageMap) → Between
-between alone free old new maps maps_then =
-    record { alone = alone; free = free; old = old; new = new; map_before = maps; map_after = maps_then }
+refuses_under : (opened opened_then : Opening → Type 0) → ((one : Opening) → opened one → opened_then one) → (before : EngineState)
+    (asked : Submitted) (after : EngineState) → Refuses opened_then before asked fault.Disk after
+    → Refuses opened before asked fault.Disk after
+refuses_under opened opened_then keeps before asked after (clear, rose, inl read) = (clear, rose, inl read)
+refuses_under opened opened_then keeps before asked after (clear, rose, inr stops) = (
+  clear,
+  rose,
+  inr (record {
+    stop = stops.stop;
+    map = stops.map;
+    place = stops.place;
+    moments = at_under opened opened_then keeps _ before.disk after.disk stops.moments;
+    after_is = stops.after_is;
+  }),
+)
+
+fails_under : (opened opened_then : Opening → Type 0) → ((one : Opening) → opened one → opened_then one) → (before after : EngineState)
+    → FailsInStep opened_then before after → FailsInStep opened before after
+fails_under opened opened_then keeps before after fails = record {
+  rose = fails.rose;
+  moments = at_under opened opened_then keeps _ before.disk after.disk fails.moments;
+  after_is = fails.after_is;
+}
+
+steps_under : (opened opened_then : Opening → Type 0) → ((one : Opening) → opened one → opened_then one) → (before : EngineState)
+    (answer : Ckpt) (after : EngineState) → Checkpoints opened_then before answer after → Checkpoints opened before answer after
+steps_under opened opened_then keeps before answer after steps = record {
+  steps = steps.steps;
+  moments = at_under opened opened_then keeps _ before.disk after.disk steps.moments;
+  after_is = steps.after_is;
+}
+
+pub fails_at : (opened opened_then : Opening → Type 0) → ((one : Opening) → opened one → opened_then one) → (before after : EngineState)
+    → During before (λ mid. FailsInStep opened_then mid after) → During before (λ mid. FailsInStep opened mid after)
+fails_at opened opened_then keeps before after (mid, later, fails) = (mid, later, fails_under opened opened_then keeps mid after fails)
+
+pub steps_at : (opened opened_then : Opening → Type 0) → ((one : Opening) → opened one → opened_then one) → (before : EngineState)
+    (answer : Ckpt) (after : EngineState) → During before (λ mid. Checkpoints opened_then mid answer after)
+    → During before (λ mid. Checkpoints opened mid answer after)
+steps_at opened opened_then keeps before answer after (mid, later, steps) =
+    (mid, later, steps_under opened opened_then keeps mid answer after steps)
 
 -- an act, under weaker premises
-pub acts_under : (alone free alone_then free_then : Type 0) (old new : Seen) (maps maps_then : Pin → Option PageMap)
-    (before : List Seat) (act : Act) (told : Told) (after : List Seat) → (alone → alone_then) → (free → free_then)
-    → Acts (record { alone = alone_then; free = free_then; old = old; new = new; map_before = maps; map_after = maps_then }) before act told after
-    → Acts (record { alone = alone; free = free; old = old; new = new; map_before = maps; map_after = maps_then }) before act told after
-acts_under alone free alone_then free_then old new maps maps_then before (act.Begin session) told after alone_stays free_stays acts =
+pub acts_under : (opened opened_then : Opening → Type 0) (old new : EngineState) (maps maps_then : Pin → Option PageMap)
+    (before : List Seat) (act : Act) (told : Told) (after : List Seat) → ((one : Opening) → opened one → opened_then one)
+    → Acts (record { opened = opened_then; old = old; new = new; map_before = maps; map_after = maps_then }) before act told after
+    → Acts (record { opened = opened; old = old; new = new; map_before = maps; map_after = maps_then }) before act told after
+acts_under opened opened_then old new maps maps_then before (act.Begin session) told after keeps acts =
     by_state (state_of before session) acts
   where
     by_state : (state : State)
-        → BeginActs (record { alone = alone_then; free = free_then; old = old; new = new; map_before = maps; map_after = maps_then }) session before after told state
-        → BeginActs (record { alone = alone; free = free; old = old; new = new; map_before = maps; map_after = maps_then }) session before after told state
+        → BeginActs (record { opened = opened_then; old = old; new = new; map_before = maps; map_after = maps_then }) session before after told state
+        → BeginActs (record { opened = opened; old = old; new = new; map_before = maps; map_after = maps_then }) session before after told state
     by_state Out (is, (pin, (mid, later, (begun, begins, then, map)), put)) = (
       is,
       (
         pin,
         (
           mid,
-          later_under alone free alone_then free_then old mid alone_stays free_stays later,
-          (begun, begins, later_under alone free alone_then free_then begun new alone_stays free_stays then, map),
+          later,
+          (begun, begins, then, map),
         ),
         put,
       ),
     )
     by_state (Open transaction) same = same
     by_state (Refused pin) same = same
-acts_under alone free alone_then free_then old new maps maps_then before (act.Read session page) told after alone_stays free_stays acts =
+acts_under opened opened_then old new maps maps_then before (act.Read session page) told after keeps acts =
     by_state (state_of before session) acts
   where
     by_image : (transaction : Transaction) (image : Option (List ℕ))
-        → ReadOpen (record { alone = alone_then; free = free_then; old = old; new = new; map_before = maps; map_after = maps_then }) session page before after told transaction image
-        → ReadOpen (record { alone = alone; free = free; old = old; new = new; map_before = maps; map_after = maps_then }) session page before after told transaction image
+        → ReadOpen (record { opened = opened_then; old = old; new = new; map_before = maps; map_after = maps_then }) session page before after told transaction image
+        → ReadOpen (record { opened = opened; old = old; new = new; map_before = maps; map_after = maps_then }) session page before after told transaction image
     by_image transaction (Some bytes) read = read
     by_image transaction None (inl (is, put, (mid, later, fails))) =
-        inl (is, put, (mid, later_under alone free alone_then free_then old mid alone_stays free_stays later, fails))
+        inl (is, put, (mid, later, fails))
     by_image transaction None (inr (byte, is, bytes, put, (mid, later, only))) =
-        inr (byte, is, bytes, put, (mid, later_under alone free alone_then free_then old mid alone_stays free_stays later, only))
+        inr (byte, is, bytes, put, (mid, later, only))
 
     by_state : (state : State)
-        → ReadActs (record { alone = alone_then; free = free_then; old = old; new = new; map_before = maps; map_after = maps_then }) session page before after told state
-        → ReadActs (record { alone = alone; free = free; old = old; new = new; map_before = maps; map_after = maps_then }) session page before after told state
+        → ReadActs (record { opened = opened_then; old = old; new = new; map_before = maps; map_after = maps_then }) session page before after told state
+        → ReadActs (record { opened = opened; old = old; new = new; map_before = maps; map_after = maps_then }) session page before after told state
     by_state Out same = same
     by_state (Open transaction) read = by_image transaction (image_of transaction.changed page) read
     by_state (Refused pin) same = same
-acts_under alone free alone_then free_then old new maps maps_then before (act.Write session page byte) told after alone_stays free_stays acts =
+acts_under opened opened_then old new maps maps_then before (act.Write session page byte) told after keeps acts =
     by_state (state_of before session) acts
   where
     by_state : (state : State)
-        → WriteActs (record { alone = alone_then; free = free_then; old = old; new = new; map_before = maps; map_after = maps_then }) session page byte before after told state
-        → WriteActs (record { alone = alone; free = free; old = old; new = new; map_before = maps; map_after = maps_then }) session page byte before after told state
+        → WriteActs (record { opened = opened_then; old = old; new = new; map_before = maps; map_after = maps_then }) session page byte before after told state
+        → WriteActs (record { opened = opened; old = old; new = new; map_before = maps; map_after = maps_then }) session page byte before after told state
     by_state Out same = same
     by_state (Open transaction) write = write
     by_state (Refused pin) same = same
-acts_under alone free alone_then free_then old new maps maps_then before (act.Commit session) told after alone_stays free_stays acts =
+acts_under opened opened_then old new maps maps_then before (act.Commit session) told after keeps acts =
     by_state (state_of before session) acts
   where
     by_told : (transaction : Transaction) (told : Told)
-        → CommitOpen (record { alone = alone_then; free = free_then; old = old; new = new; map_before = maps; map_after = maps_then }) session before after transaction told
-        → CommitOpen (record { alone = alone; free = free; old = old; new = new; map_before = maps; map_after = maps_then }) session before after transaction told
-    by_told transaction (reply.Done receipt) ((mid, later, done), put) =
-        ((mid, later_under alone free alone_then free_then old mid alone_stays free_stays later, done), put)
+        → CommitOpen (record { opened = opened_then; old = old; new = new; map_before = maps; map_after = maps_then }) session before after transaction told
+        → CommitOpen (record { opened = opened; old = old; new = new; map_before = maps; map_after = maps_then }) session before after transaction told
+    by_told transaction (reply.Done receipt) ((mid, later, (done, accepts, ends)), put) =
+        ((mid, later, (done, accepts_under opened opened_then keeps mid _ receipt done accepts, ends)), put)
     by_told transaction (reply.Busy page number) ((mid, later, refuses), put) =
-        ((mid, later_under alone free alone_then free_then old mid alone_stays free_stays later, refuses), put)
+        ((mid, later, refuses), put)
     by_told transaction reply.Disk ((mid, later, refuses), put) =
-        ((mid, later_under alone free alone_then free_then old mid alone_stays free_stays later, refuses), put)
+        ((mid, later, refuses_under opened opened_then keeps mid _ new refuses), put)
     by_told transaction (reply.Stopped log at) ((mid, later, refuses), put) =
-        ((mid, later_under alone free alone_then free_then old mid alone_stays free_stays later, refuses), put)
+        ((mid, later, refuses), put)
     by_told transaction (reply.Size pages) ((frames, (mid, later, refuses)), put) =
-        ((frames, (mid, later_under alone free alone_then free_then old mid alone_stays free_stays later, refuses)), put)
+        ((frames, (mid, later, refuses)), put)
     by_told transaction reply.Ok never = absurd never
     by_told transaction (reply.Byte byte) never = absurd never
     by_told transaction reply.InTransaction never = absurd never
@@ -122,48 +169,48 @@ acts_under alone free alone_then free_then old new maps maps_then before (act.Co
     by_told transaction (reply.Logs logs) never = absurd never
 
     by_state : (state : State)
-        → CommitActs (record { alone = alone_then; free = free_then; old = old; new = new; map_before = maps; map_after = maps_then }) session before after told state
-        → CommitActs (record { alone = alone; free = free; old = old; new = new; map_before = maps; map_after = maps_then }) session before after told state
+        → CommitActs (record { opened = opened_then; old = old; new = new; map_before = maps; map_after = maps_then }) session before after told state
+        → CommitActs (record { opened = opened; old = old; new = new; map_before = maps; map_after = maps_then }) session before after told state
     by_state Out same = same
     by_state (Open transaction) commit = by_told transaction told commit
     by_state (Refused pin) same = same
-acts_under alone free alone_then free_then old new maps maps_then before (act.Rollback session) told after alone_stays free_stays acts =
+acts_under opened opened_then old new maps maps_then before (act.Rollback session) told after keeps acts =
     by_state (state_of before session) acts
   where
     by_state : (state : State)
-        → RollbackActs (record { alone = alone_then; free = free_then; old = old; new = new; map_before = maps; map_after = maps_then }) session before after told state
-        → RollbackActs (record { alone = alone; free = free; old = old; new = new; map_before = maps; map_after = maps_then }) session before after told state
+        → RollbackActs (record { opened = opened_then; old = old; new = new; map_before = maps; map_after = maps_then }) session before after told state
+        → RollbackActs (record { opened = opened; old = old; new = new; map_before = maps; map_after = maps_then }) session before after told state
     by_state Out same = same
     by_state (Open transaction) rollback = rollback
     by_state (Refused pin) rollback = rollback
-acts_under alone free alone_then free_then old new maps maps_then before act.Step told after alone_stays free_stays (step, same) = (by_answer step, same)
+acts_under opened opened_then old new maps maps_then before act.Step told after keeps (step, same) = (by_answer step, same)
   where
-    by_answer : StepActs (record { alone = alone_then; free = free_then; old = old; new = new; map_before = maps; map_after = maps_then }) told
-        → StepActs (record { alone = alone; free = free; old = old; new = new; map_before = maps; map_after = maps_then }) told
+    by_answer : StepActs (record { opened = opened_then; old = old; new = new; map_before = maps; map_after = maps_then }) told
+        → StepActs (record { opened = opened; old = old; new = new; map_before = maps; map_after = maps_then }) told
     by_answer (inl (is, (mid, later, fails))) =
-        inl (is, (mid, later_under alone free alone_then free_then old mid alone_stays free_stays later, fails))
+        inl (is, (mid, later, fails_under opened opened_then keeps mid new fails))
     by_answer (inr (answer, is, (mid, later, steps))) =
-        inr (answer, is, (mid, later_under alone free alone_then free_then old mid alone_stays free_stays later, steps))
-acts_under alone free alone_then free_then old new maps maps_then before act.Copy told after alone_stays free_stays ((answers, copies), same) =
+        inr (answer, is, (mid, later, steps_under opened opened_then keeps mid answer new steps))
+acts_under opened opened_then old new maps maps_then before act.Copy told after keeps ((answers, copies), same) =
     ((answers, by_answers answers old copies), same)
   where
-    by_answers : (answers : List Ckpt) (from : Seen) → Copies alone_then free_then answers from told new → Copies alone free answers from told new
+    by_answers : (answers : List Ckpt) (from : EngineState) → Copies opened_then answers from told new → Copies opened answers from told new
     by_answers [] from (inl (is, (mid, later, fails))) =
-        inl (is, (mid, later_under alone free alone_then free_then from mid alone_stays free_stays later, fails))
+        inl (is, (mid, later, fails_under opened opened_then keeps mid new fails))
     by_answers [] from (inr (answer, last, is, (mid, later, steps))) =
-        inr (answer, last, is, (mid, later_under alone free alone_then free_then from mid alone_stays free_stays later, steps))
+        inr (answer, last, is, (mid, later, steps_under opened opened_then keeps mid answer new steps))
     by_answers (answer ∷ answers) from (copied, page, is, (mid, later, steps), rest) = (
       copied,
       page,
       is,
-      (mid, later_under alone free alone_then free_then from mid alone_stays free_stays later, steps),
+      (mid, later, steps_under opened opened_then keeps mid answer copied steps),
       by_answers answers copied rest,
     )
-acts_under alone free alone_then free_then old new maps maps_then before act.Logs told after alone_stays free_stays (same, (mid, later, logs)) =
-    (same, (mid, later_under alone free alone_then free_then old mid alone_stays free_stays later, logs))
+acts_under opened opened_then old new maps maps_then before act.Logs told after keeps (same, (mid, later, logs)) =
+    (same, (mid, later, logs))
 
 -- it grew twice
-pub grew_on : (old mid new : Seen) → Grew old mid → Grew mid new → Grew old new
+pub grew_on : (old mid new : EngineState) → Grew old mid → Grew mid new → Grew old new
 grew_on old mid new first then = record {
   more = first.more ++ then.more;
   history = then.history ∙ (ap (λ (commits : List Commit). commits ++ then.more) first.history ∙ append_assoc old.history first.more then.more);
@@ -172,46 +219,54 @@ grew_on old mid new first then = record {
   faults = omega (arith, first.faults, then.faults);
 }
 
--- What an engine tells goes on: it grew, its page size stays, and where it is alone and keeps no logs it goes on to keep none.
-pub record GoesOn (alone : Type 0) (old new : Seen) : Type 0 where
+-- What an engine tells goes on: it grew, its page size stays, who may commit stays, and where it keeps no logs it goes on to keep none.
+pub record GoesOn (old new : EngineState) : Type 0 where
   pub grew : Grew old new
   pub page_size : new.page_size ≡ old.page_size
-  pub no_logs : alone → old.logs ≡ None → new.logs ≡ None
+  pub alone : new.alone ≡ old.alone
+  pub no_logs : old.logs ≡ None → new.logs ≡ None
 
 -- it does so twice
-pub goes_twice : (alone : Type 0) (old mid new : Seen) → GoesOn alone old mid → GoesOn alone mid new → GoesOn alone old new
-goes_twice alone old mid new first then = record {
+pub goes_twice : (old mid new : EngineState) → GoesOn old mid → GoesOn mid new → GoesOn old new
+goes_twice old mid new first then = record {
   grew = grew_on old mid new first.grew then.grew;
   page_size = then.page_size ∙ first.page_size;
-  no_logs = λ here none. then.no_logs here (first.no_logs here none);
+  alone = then.alone ∙ first.alone;
+  no_logs = λ none. then.no_logs (first.no_logs none);
 }
 
--- nothing but the place of a failed write, the logs and the faults may have changed
-goes_but : (alone : Type 0) (old new : Seen) (stopped : Option Stop) (logs : Option LogState) (faults : ℕ)
-    → new ≡ record old { stopped = stopped; logs = logs; faults = faults } → old.faults ≤ faults → (old.logs ≡ None → logs ≡ None)
-    → GoesOn alone old new
-goes_but alone old new stopped logs faults is more none = record {
+-- nothing but the place of a failed write, the faults, the logs, their readers and the disk's past may have changed
+goes_but : (old new : EngineState) (stopped : Option Stop) (faults : ℕ) (logs : Option TwoLogs) (readers : Readers) (disk : Option History)
+    → new ≡ record old { stopped = stopped; faults = faults; logs = logs; readers = readers; disk = disk } → old.faults ≤ faults
+    → (old.logs ≡ None → logs ≡ None) → GoesOn old new
+goes_but old new stopped faults logs readers disk is more none = subst (GoesOn old) (sym is) (record {
   grew = record {
     more = [];
-    history = ap (λ (seen : Seen). seen.history) is ∙ sym (append-nil old.history);
+    history = sym (append-nil old.history);
     more_own = [];
-    own = ap (λ (seen : Seen). seen.own) is ∙ sym (append-nil old.own);
-    faults = omega (arith, more, ap (λ (seen : Seen). seen.faults) is);
+    own = sym (append-nil old.own);
+    faults = more;
   };
-  page_size = ap (λ (seen : Seen). seen.page_size) is;
-  no_logs = λ here was. ap (λ (seen : Seen). seen.logs) is ∙ none was;
-}
+  page_size = refl;
+  alone = refl;
+  no_logs = none;
+})
 
 -- nothing changed
-goes_equal : (alone : Type 0) (old new : Seen) → new ≡ old → GoesOn alone old new
-goes_equal alone old new same = goes_but alone old new old.stopped old.logs old.faults same (omega arith) (λ was. was)
+goes_equal : (old new : EngineState) → new ≡ old → GoesOn old new
+goes_equal old new same = goes_but old new old.stopped old.faults old.logs old.readers old.disk same (omega arith) (λ was. was)
 
-pub grew_equal : (old new : Seen) → new ≡ old → Grew old new
-grew_equal old new same = (goes_equal (Unit {0}) old new same).grew
+pub grew_equal : (old new : EngineState) → new ≡ old → Grew old new
+grew_equal old new same = (goes_equal old new same).grew
+
+-- logs that are told by neither
+still_none : (old new : Option TwoLogs) → is_some new ≡ is_some old → old ≡ None → new ≡ None
+still_none old None told none = refl
+still_none old (Some logs) told none = absurd (true≢false (told ∙ ap is_some none))
 
 -- others let it grow
-goes_later : (alone free : Type 0) (old new : Seen) → Later alone free old new → GoesOn alone old new
-goes_later alone free old new later = record {
+goes_later : (old new : EngineState) → Later old new → GoesOn old new
+goes_later old new later = record {
   grew = record {
     more = later.more;
     history = later.grown;
@@ -220,132 +275,143 @@ goes_later alone free old new later = record {
     faults = later.faults;
   };
   page_size = later.page_size;
-  no_logs = λ here none. ap (λ (seen : Seen). seen.logs) (later.nobody here) ∙ none;
+  alone = later.alone;
+  no_logs = still_none old.logs new.logs later.keeps_logs;
 }
 
--- nothing but faults
-goes_faults : (alone free : Type 0) (old new : Seen) → Found alone free old (λ mid. OnlyFaults mid new) → GoesOn alone old new
-goes_faults alone free old new (mid, later, only) = goes_twice alone old mid new (goes_later alone free old mid later)
-    (goes_but alone mid new mid.stopped mid.logs new.faults only.1 only.0 (λ none. none))
+-- nothing changed beyond that
+goes_still : (old new : EngineState) → During old (λ mid. new ≡ mid) → GoesOn old new
+goes_still old new (mid, later, same) = goes_twice old mid new (goes_later old mid later) (goes_equal mid new same)
 
-pub grew_faults : (alone free : Type 0) (old new : Seen) → Found alone free old (λ mid. OnlyFaults mid new) → Grew old new
-grew_faults alone free old new found = (goes_faults alone free old new found).grew
+pub grew_still : (old new : EngineState) → During old (λ mid. new ≡ mid) → Grew old new
+grew_still old new found = (goes_still old new found).grew
 
-goes_fails : (alone free : Type 0) (old new : Seen) → Found alone free old (λ mid. Fails mid new) → GoesOn alone old new
-goes_fails alone free old new (mid, later, fails) = goes_twice alone old mid new (goes_later alone free old mid later)
-    (goes_but alone mid new mid.stopped mid.logs new.faults fails.1 fails.0.later (λ none. none))
+goes_fails : (old new : EngineState) → During old (λ mid. FailsAlone mid new) → GoesOn old new
+goes_fails old new (mid, later, fails) = goes_twice old mid new (goes_later old mid later)
+    (goes_but mid new mid.stopped new.faults mid.logs mid.readers mid.disk fails.1 fails.0.later (λ none. none))
 
 -- a step of a checkpoint: where there are no logs, there are none after it
-goes_steps : (alone free : Type 0) (old new : Seen) (answer : Ckpt) → Found alone free old (λ mid. Checkpoints mid answer new)
-    → GoesOn alone old new
-goes_steps alone free old new answer (mid, later, steps) = goes_twice alone old mid new (goes_later alone free old mid later)
-    (goes_but alone mid new mid.stopped new.logs new.faults steps.2 steps.1
-    (λ none. let there : (answer ≡ Idle) × (new.logs ≡ None) = rw none at steps.0 in there.1))
+goes_step_fails : (opened : Opening → Type 0) (old new : EngineState) → During old (λ mid. FailsInStep opened mid new) → GoesOn old new
+goes_step_fails opened old new (mid, later, fails) = goes_twice old mid new (goes_later old mid later)
+    (goes_but mid new mid.stopped new.faults mid.logs mid.readers new.disk fails.after_is fails.rose.later (λ none. none))
+
+goes_steps : (opened : Opening → Type 0) (old new : EngineState) (answer : Ckpt) → During old (λ mid. Checkpoints opened mid answer new)
+    → GoesOn old new
+goes_steps opened old new answer (mid, later, steps) = goes_twice old mid new (goes_later old mid later)
+    (goes_but mid new mid.stopped mid.faults new.logs mid.readers new.disk steps.after_is (omega arith)
+    (λ none. let there : (answer ≡ Idle) × (new.logs ≡ None) = rw none at steps.steps in there.1))
+
+-- a reader more or less
+goes_reader : (old new : EngineState) (change : ℕ → ℕ) (lock : Lock) → new ≡ with_readers change lock old → GoesOn old new
+goes_reader old new change lock is = subst (GoesOn old) (sym is) (by_test (old.always_begins && is_some old.logs))
+  where
+    by_test : (test : Bool) → GoesOn old (cond test (record old { readers = change_readers change old.readers lock }) old)
+    by_test true = goes_but old _ old.stopped old.faults old.logs (change_readers change old.readers lock) old.disk refl (omega arith) (λ none. none)
+    by_test false = goes_equal old old refl
 
 -- the end of a pin
-goes_ends : (alone : Type 0) (old new : Seen) (pin : Pin) → Ends old pin new → GoesOn alone old new
-goes_ends alone old new pin ends = goes_but alone old new old.stopped (without_reader old.logs pin.lock) old.faults ends (omega arith)
-    (λ none. ap (λ (logs : Option LogState). without_reader logs pin.lock) none)
+goes_ends : (old new : EngineState) (pin : Pin) → Ends old pin new → GoesOn old new
+goes_ends old new pin ends = goes_reader old new one_fewer pin.lock ends
 
 -- the ends of pins
-pub goes_all : (alone : Type 0) (pins : List Pin) (old new : Seen) → EndsAll pins old new → GoesOn alone old new
-goes_all alone [] old new same = goes_equal alone old new same
-goes_all alone (pin ∷ pins) old new (mid, ends, rest) =
-    goes_twice alone old mid new (goes_ends alone old mid pin ends) (goes_all alone pins mid new rest)
+pub goes_all : (pins : List Pin) (old new : EngineState) → EndsAll pins old new → GoesOn old new
+goes_all [] old new same = goes_equal old new same
+goes_all (pin ∷ pins) old new (mid, ends, rest) = goes_twice old mid new (goes_ends old mid pin ends) (goes_all pins mid new rest)
 
-pub grew_all : (pins : List Pin) (old new : Seen) → EndsAll pins old new → Grew old new
-grew_all pins old new ends = (goes_all (Unit {0}) pins old new ends).grew
+pub grew_all : (pins : List Pin) (old new : EngineState) → EndsAll pins old new → Grew old new
+grew_all pins old new ends = (goes_all pins old new ends).grew
 
 -- a commit
-goes_accepts : (alone : Type 0) (mid done : Seen) (asked : Submitted) (receipt : Receipt) → Accepts mid asked receipt done
-    → GoesOn alone mid done
-goes_accepts alone mid done asked (ReadOnly n) accepts = goes_equal alone mid done accepts.2
-goes_accepts alone mid done asked (At number) accepts = record {
+goes_accepts : (opened : Opening → Type 0) (mid done : EngineState) (asked : Submitted) (receipt : Receipt)
+    → AcceptsCommit opened mid asked receipt done → GoesOn mid done
+goes_accepts opened mid done asked (ReadOnly n) accepts = goes_equal mid done accepts.2
+goes_accepts opened mid done asked (At number) accepts = record {
   grew = record {
-    more = commit_of asked ∷ [];
-    history = ap (λ (seen : Seen). seen.history) accepts.after_is;
+    more = commit_of asked accepts.pages ∷ [];
+    history = ap (λ (seen : EngineState). seen.history) accepts.after_is;
     more_own = number ∷ [];
-    own = ap (λ (seen : Seen). seen.own) accepts.after_is;
-    faults = accepts.faults;
+    own = ap (λ (seen : EngineState). seen.own) accepts.after_is;
+    faults = omega (arith, ap (λ (seen : EngineState). seen.faults) accepts.after_is);
   };
-  page_size = ap (λ (seen : Seen). seen.page_size) accepts.after_is;
-  no_logs = λ here none.
-      ap (λ (seen : Seen). seen.logs) accepts.after_is
-      ∙ ap (option_map (λ (logs : LogState). with_frames logs (written asked.change))) none;
+  page_size = ap (λ (seen : EngineState). seen.page_size) accepts.after_is;
+  alone = ap (λ (seen : EngineState). seen.alone) accepts.after_is;
+  no_logs = λ none.
+      ap (λ (seen : EngineState). seen.logs) accepts.after_is
+      ∙ ap (option_map (λ (logs : TwoLogs). to_write logs mid.readers mid.history)) none;
 }
 
+-- an engine that keeps no logs stops nowhere
+never_stops : (before : EngineState) (stop : Stop) (after : Option TwoLogs) → before.logs ≡ None → StopsAt before stop after → ⊥
+never_stops before stop after none stops = rw none at stops
+
 -- a commit that a disk barred, which may have switched the logs where there are some
-goes_barred : (alone : Type 0) (mid new : Seen) (asked : Submitted) → Refuses mid asked fault.Disk new → GoesOn alone mid new
-goes_barred alone mid new asked refuses = goes_but alone mid new new.stopped new.logs new.faults refuses.3 refuses.1.later
-    (λ none. elim (refuses.2) [
-      | inl kept ↦ kept.1 ∙ none
-      | inr left ↦ elim (left.3) [
-        | inl kept ↦ kept ∙ none
-        | inr switched ↦ switched ∙ ap (option_map before_frames) none
-      ]
-    ])
+goes_barred : (opened : Opening → Type 0) (mid new : EngineState) (asked : Submitted) → Refuses opened mid asked fault.Disk new → GoesOn mid new
+goes_barred opened mid new asked (clear, rose, inl read) =
+    goes_but mid new mid.stopped new.faults mid.logs mid.readers mid.disk read rose.later (λ none. none)
+goes_barred opened mid new asked (clear, rose, inr stops) =
+    goes_but mid new (Some stops.stop) new.faults new.logs mid.readers new.disk stops.after_is rose.later
+    (λ none. absurd (never_stops mid stops.stop new.logs none stops.place))
 
 -- BEGIN
-goes_begins : (alone : Type 0) (mid begun : Seen) (pin : Pin) → Begins mid pin begun → GoesOn alone mid begun
-goes_begins alone mid begun pin begins = goes_but alone mid begun mid.stopped (with_reader mid.logs pin.lock) mid.faults begins.after_is
-    (omega arith) (λ none. ap (λ (logs : Option LogState). with_reader logs pin.lock) none)
+goes_begins : (mid begun : EngineState) (pin : Pin) → Begins mid pin begun → GoesOn mid begun
+goes_begins mid begun pin begins = goes_reader mid begun one_more pin.lock begins.after_is
 
 -- an act
-pub acts_go : (alone free : Type 0) (old new : Seen) (maps maps_then : Pin → Option PageMap)
+pub acts_go : (opened : Opening → Type 0) (old new : EngineState) (maps maps_then : Pin → Option PageMap)
     (before : List Seat) (act : Act) (told : Told) (after : List Seat)
-    → Acts (record { alone = alone; free = free; old = old; new = new; map_before = maps; map_after = maps_then }) before act told after
-    → GoesOn alone old new
-acts_go alone free old new maps maps_then before (act.Begin session) told after acts = by_state (state_of before session) acts
+    → Acts (record { opened = opened; old = old; new = new; map_before = maps; map_after = maps_then }) before act told after
+    → GoesOn old new
+acts_go opened old new maps maps_then before (act.Begin session) told after acts = by_state (state_of before session) acts
   where
     by_state : (state : State)
-        → BeginActs (record { alone = alone; free = free; old = old; new = new; map_before = maps; map_after = maps_then }) session before after told state
-        → GoesOn alone old new
+        → BeginActs (record { opened = opened; old = old; new = new; map_before = maps; map_after = maps_then }) session before after told state
+        → GoesOn old new
     by_state Out (is, (pin, (mid, later, (begun, begins, then, map)), put)) =
-        goes_twice alone old begun new
-        (goes_twice alone old mid begun (goes_later alone free old mid later) (goes_begins alone mid begun pin begins))
-        (goes_later alone free begun new then)
-    by_state (Open transaction) same = goes_equal alone old new same.2
-    by_state (Refused pin) same = goes_equal alone old new same.2
-acts_go alone free old new maps maps_then before (act.Read session page) told after acts = by_state (state_of before session) acts
+        goes_twice old begun new
+        (goes_twice old mid begun (goes_later old mid later) (goes_begins mid begun pin begins))
+        (goes_later begun new then)
+    by_state (Open transaction) same = goes_equal old new same.2
+    by_state (Refused pin) same = goes_equal old new same.2
+acts_go opened old new maps maps_then before (act.Read session page) told after acts = by_state (state_of before session) acts
   where
     by_image : (transaction : Transaction) (image : Option (List ℕ))
-        → ReadOpen (record { alone = alone; free = free; old = old; new = new; map_before = maps; map_after = maps_then }) session page before after told transaction image
-        → GoesOn alone old new
-    by_image transaction (Some bytes) read = goes_equal alone old new read.2
-    by_image transaction None (inl (is, put, fails)) = goes_fails alone free old new fails
-    by_image transaction None (inr (byte, is, bytes, put, only)) = goes_faults alone free old new only
+        → ReadOpen (record { opened = opened; old = old; new = new; map_before = maps; map_after = maps_then }) session page before after told transaction image
+        → GoesOn old new
+    by_image transaction (Some bytes) read = goes_equal old new read.2
+    by_image transaction None (inl (is, put, fails)) = goes_fails old new fails
+    by_image transaction None (inr (byte, is, bytes, put, only)) = goes_still old new only
 
     by_state : (state : State)
-        → ReadActs (record { alone = alone; free = free; old = old; new = new; map_before = maps; map_after = maps_then }) session page before after told state
-        → GoesOn alone old new
-    by_state Out same = goes_equal alone old new same.2
+        → ReadActs (record { opened = opened; old = old; new = new; map_before = maps; map_after = maps_then }) session page before after told state
+        → GoesOn old new
+    by_state Out same = goes_equal old new same.2
     by_state (Open transaction) read = by_image transaction (image_of transaction.changed page) read
-    by_state (Refused pin) same = goes_equal alone old new same.2
-acts_go alone free old new maps maps_then before (act.Write session page byte) told after acts = by_state (state_of before session) acts
+    by_state (Refused pin) same = goes_equal old new same.2
+acts_go opened old new maps maps_then before (act.Write session page byte) told after acts = by_state (state_of before session) acts
   where
     by_state : (state : State)
-        → WriteActs (record { alone = alone; free = free; old = old; new = new; map_before = maps; map_after = maps_then }) session page byte before after told state
-        → GoesOn alone old new
-    by_state Out same = goes_equal alone old new same.2
-    by_state (Open transaction) write = goes_equal alone old new write.2
-    by_state (Refused pin) same = goes_equal alone old new same.2
-acts_go alone free old new maps maps_then before (act.Commit session) told after acts = by_state (state_of before session) acts
+        → WriteActs (record { opened = opened; old = old; new = new; map_before = maps; map_after = maps_then }) session page byte before after told state
+        → GoesOn old new
+    by_state Out same = goes_equal old new same.2
+    by_state (Open transaction) write = goes_equal old new write.2
+    by_state (Refused pin) same = goes_equal old new same.2
+acts_go opened old new maps maps_then before (act.Commit session) told after acts = by_state (state_of before session) acts
   where
     by_told : (transaction : Transaction) (told : Told)
-        → CommitOpen (record { alone = alone; free = free; old = old; new = new; map_before = maps; map_after = maps_then }) session before after transaction told
-        → GoesOn alone old new
+        → CommitOpen (record { opened = opened; old = old; new = new; map_before = maps; map_after = maps_then }) session before after transaction told
+        → GoesOn old new
     by_told transaction (reply.Done receipt) ((mid, later, (done, accepts, ends)), put) =
-        goes_twice alone old done new (goes_twice alone old mid done (goes_later alone free old mid later)
-        (goes_accepts alone mid done (submitted_of before session transaction) receipt accepts)) (goes_ends alone done new transaction.pin ends)
+        goes_twice old done new (goes_twice old mid done (goes_later old mid later)
+        (goes_accepts opened mid done (submitted_of before session transaction) receipt accepts)) (goes_ends done new transaction.pin ends)
     by_told transaction (reply.Busy page number) ((mid, later, refuses), put) =
-        goes_twice alone old mid new (goes_later alone free old mid later) (goes_equal alone mid new refuses.3)
+        goes_twice old mid new (goes_later old mid later) (goes_equal mid new refuses.3)
     by_told transaction reply.Disk ((mid, later, refuses), put) =
-        goes_twice alone old mid new (goes_later alone free old mid later)
-        (goes_barred alone mid new (submitted_of before session transaction) refuses)
+        goes_twice old mid new (goes_later old mid later)
+        (goes_barred opened mid new (submitted_of before session transaction) refuses)
     by_told transaction (reply.Stopped log at) ((mid, later, refuses), put) =
-        goes_twice alone old mid new (goes_later alone free old mid later) (goes_equal alone mid new refuses.2)
+        goes_twice old mid new (goes_later old mid later) (goes_equal mid new refuses.2)
     by_told transaction (reply.Size pages) ((frames, (mid, later, refuses)), put) =
-        goes_twice alone old mid new (goes_later alone free old mid later) (goes_equal alone mid new refuses.6)
+        goes_twice old mid new (goes_later old mid later) (goes_equal mid new refuses.6)
     by_told transaction reply.Ok never = absurd never
     by_told transaction (reply.Byte byte) never = absurd never
     by_told transaction reply.InTransaction never = absurd never
@@ -355,37 +421,37 @@ acts_go alone free old new maps maps_then before (act.Commit session) told after
     by_told transaction (reply.Logs logs) never = absurd never
 
     by_state : (state : State)
-        → CommitActs (record { alone = alone; free = free; old = old; new = new; map_before = maps; map_after = maps_then }) session before after told state
-        → GoesOn alone old new
-    by_state Out same = goes_equal alone old new same.2
+        → CommitActs (record { opened = opened; old = old; new = new; map_before = maps; map_after = maps_then }) session before after told state
+        → GoesOn old new
+    by_state Out same = goes_equal old new same.2
     by_state (Open transaction) commit = by_told transaction told commit
-    by_state (Refused pin) same = goes_equal alone old new same.2
-acts_go alone free old new maps maps_then before (act.Rollback session) told after acts = by_state (state_of before session) acts
+    by_state (Refused pin) same = goes_equal old new same.2
+acts_go opened old new maps maps_then before (act.Rollback session) told after acts = by_state (state_of before session) acts
   where
     by_state : (state : State)
-        → RollbackActs (record { alone = alone; free = free; old = old; new = new; map_before = maps; map_after = maps_then }) session before after told state
-        → GoesOn alone old new
-    by_state Out same = goes_equal alone old new same.2
-    by_state (Open transaction) rollback = goes_ends alone old new transaction.pin rollback.2
-    by_state (Refused pin) rollback = goes_ends alone old new pin rollback.2
-acts_go alone free old new maps maps_then before act.Step told after (inl (is, fails), same) = goes_fails alone free old new fails
-acts_go alone free old new maps maps_then before act.Step told after (inr (answer, is, steps), same) = goes_steps alone free old new answer steps
-acts_go alone free old new maps maps_then before act.Copy told after ((answers, copies), same) = by_answers answers old copies
+        → RollbackActs (record { opened = opened; old = old; new = new; map_before = maps; map_after = maps_then }) session before after told state
+        → GoesOn old new
+    by_state Out same = goes_equal old new same.2
+    by_state (Open transaction) rollback = goes_ends old new transaction.pin rollback.2
+    by_state (Refused pin) rollback = goes_ends old new pin rollback.2
+acts_go opened old new maps maps_then before act.Step told after (inl (is, fails), same) = goes_step_fails opened old new fails
+acts_go opened old new maps maps_then before act.Step told after (inr (answer, is, steps), same) = goes_steps opened old new answer steps
+acts_go opened old new maps maps_then before act.Copy told after ((answers, copies), same) = by_answers answers old copies
   where
-    by_answers : (answers : List Ckpt) (from : Seen) → Copies alone free answers from told new → GoesOn alone from new
-    by_answers [] from (inl (is, fails)) = goes_fails alone free from new fails
-    by_answers [] from (inr (answer, last, is, steps)) = goes_steps alone free from new answer steps
+    by_answers : (answers : List Ckpt) (from : EngineState) → Copies opened answers from told new → GoesOn from new
+    by_answers [] from (inl (is, fails)) = goes_step_fails opened from new fails
+    by_answers [] from (inr (answer, last, is, steps)) = goes_steps opened from new answer steps
     by_answers (answer ∷ answers) from (copied, page, is, steps, rest) =
-        goes_twice alone from copied new (goes_steps alone free from copied answer steps) (by_answers answers copied rest)
-acts_go alone free old new maps maps_then before act.Logs told after (same, (mid, later, logs)) =
-    goes_twice alone old mid new (goes_later alone free old mid later) (goes_equal alone mid new logs.1)
+        goes_twice from copied new (goes_steps opened from copied answer steps) (by_answers answers copied rest)
+acts_go opened old new maps maps_then before act.Logs told after (same, (mid, later, logs)) =
+    goes_twice old mid new (goes_later old mid later) (goes_equal mid new logs.1)
 
 -- a run of page lines
-pub plays_go : (alone free : Type 0) (old : Seen) (maps : Pin → Option PageMap) (seats : List Seat) (acts : List Act) (answers : List Told)
-    (new : Seen) → Plays alone free old maps seats acts answers new → GoesOn alone old new
-plays_go alone free old maps seats [] [] new ends = goes_all alone (pins_of seats) old new ends
-plays_go alone free old maps seats (act ∷ acts) (answer ∷ answers) new (mid, maps_then, seats_then, acted, keeps, rest) =
-    goes_twice alone old mid new (acts_go alone free old mid maps maps_then seats act answer seats_then acted)
-    (plays_go alone free mid maps_then seats_then acts answers new rest)
-plays_go alone free old maps seats [] (answer ∷ answers) new never = absurd never
-plays_go alone free old maps seats (act ∷ acts) [] new never = absurd never
+pub plays_go : (opened : Opening → Type 0) (old : EngineState) (maps : Pin → Option PageMap) (seats : List Seat) (acts : List Act) (answers : List Told)
+    (new : EngineState) → Plays opened old maps seats acts answers new → GoesOn old new
+plays_go opened old maps seats [] [] new ends = goes_all (pins_of seats) old new ends
+plays_go opened old maps seats (act ∷ acts) (answer ∷ answers) new (mid, maps_then, seats_then, acted, keeps, rest) =
+    goes_twice old mid new (acts_go opened old mid maps maps_then seats act answer seats_then acted)
+    (plays_go opened mid maps_then seats_then acts answers new rest)
+plays_go opened old maps seats [] (answer ∷ answers) new never = absurd never
+plays_go opened old maps seats (act ∷ acts) [] new never = absurd never

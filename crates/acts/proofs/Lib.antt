@@ -4,7 +4,6 @@ pub mod Standing
 pub mod StandingStatements
 pub mod StandingCommits
 pub mod StandingActs
-pub mod Memory
 pub mod Places
 pub mod Outcomes
 pub mod Seatings

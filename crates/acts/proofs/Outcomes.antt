@@ -1,5 +1,5 @@
 -- What an act leaves of a transaction, and what a refused or accepted COMMIT means for the list of seats.
-use Rattle.std.proofs.Common.{◌≡◌, ℕ, ◌+◌, ◌≤◌, List, [], ◌∷◌, ◌++◌, length, replicate, Option, Some, None, Result, Ok, Err, refl, sym, subst, ap, ◌∙◌, arith}
+use Rattle.std.proofs.Common.{◌≡◌, ◌≢◌, inl, inr, ℕ, ◌≤◌, List, [], ◌∷◌, ◌++◌, length, replicate, Option, Some, None, Result, Ok, Err, Bool, true, cond, ◌&&◌, is_some, refl, sym, subst, ap, ◌∙◌, arith}
 use Rattle.std.specs.Prelude.{IfSome, IfOk, OnOk, OnErr, false}
 use Rattle.std.specs.declared.alloc.AllocError.{AllocError}
 use Rattle.std.proofs.lemmas.List.{length-replicate}
@@ -16,17 +16,29 @@ use Rattle.engine_spec.specs.declared.commits.Receipt.TheVariants.{At, ReadOnly}
 use Rattle.page_lines.specs.PageLines.{ReadPage, WritePage, read_text, write_text, Fills, AreImages, IsPageStore, PageLinesLead}
 use Rattle.engine_spec.specs.Change.{image_of}
 use Rattle.engine_spec.specs.Good.{Good, HasSizes}
-use Rattle.engine_spec.specs.Seen.{Seen, Found, Accepts, Refuses, Ends, Submitted}
+use Rattle.crash_spec.specs.Opening.{Opening}
+use Rattle.engine_spec.specs.declared.pins.Lock.{Lock}
+use Rattle.engine_spec.specs.State.{EngineState, Later, During}
+use Rattle.engine_spec.specs.TwoLogs.{one_fewer, change_readers}
+use Rattle.engine_spec.specs.Written.{Submitted}
+use Rattle.disk_face.specs.Faults.{one_more}
+use Rattle.engine_spec.specs.Events.{AcceptsCommit, RefusesCommit, Ends, with_readers}
+use Rattle.page_lines.specs.declared.lines.Told.TheVariants.{Done}
+use Rattle.page_face.specs.declared.means.Means.{Ghosts as Meaning}
+use Rattle.page_face.specs.declared.prepared.Prepared.{Prepared}
+use Rattle.page_face.specs.Prepared.{IsGood}
+use Rattle.page_face.specs.declared.engine_tells.EngineTells.{Ghosts}
+use Rattle.page_face.specs.Calls.{Stays, HasBegun, HasEnded, CommitKeepsRuns}
+use Rattle.engine_spec.proofs.Here.{during_here}
 use Rattle.engine_spec.proofs.Laying.{page_at-length}
 use Rattle.page_lines.proofs.GoodLines.{good_lines}
 use Rattle.page_lines.proofs.Transactions.{with_image-are, fills_read, fills_write, texts-push}
-use Rattle.page_face.specs.Pins.{KeepsPins, TakesPin}
 use Rattle.acts.specs.declared.seats.Seat.{Seat}
 use Rattle.acts.specs.declared.seats.State.{State}
-use Rattle.acts.specs.declared.seats.State.TheVariants.{Open}
+use Rattle.acts.specs.declared.seats.State.TheVariants.{Open, Out}
 use Rattle.acts.specs.declared.seats.Transaction.{Transaction}
-use Rattle.acts.specs.Pagers.{Between, Acts, ReadActs, ReadOpen, CommitOpen, IsSoundTransaction, after_own, after_fetch, after_write, submitted_of, with_state}
-use Rattle.acts.specs.Turns.{Moves, IsRefused, Stays}
+use Rattle.acts.specs.Pagers.{Between, Refuses, Acts, ReadActs, ReadOpen, CommitOpen, IsSoundTransaction, after_own, after_fetch, after_write, submitted_of, with_state}
+use Rattle.acts.specs.Turns.{Moves, IsRefused, SwapsPins}
 
 -- A read of an own page leaves a transaction sound.
 pub sound_own : (page_size : ℕ) (old new : Transaction) (page : ℕ) → new ≡ after_own old page
@@ -95,7 +107,7 @@ good snapshot old page_size fresh freed none sizes sound =
     let same : page_size_of snapshot ≡ page_size = page_at-length snapshot page_size 1 sizes.each (omega arith) some in
     good_lines snapshot old.reads
     (record { mode = Concurrent; base = old.pin.size; changed = old.changed; fresh = fresh; freed = freed; tail = false })
-    sound.statements old.said refl none
+    sound.statements old.said refl none refl
     (subst (λ (size : ℕ). AreImages size old.changed) (sym same) sound.images)
     (subst (λ (size : ℕ). Fills size sound.statements old.changed) (sym same) sound.fills) sound.texts
 
@@ -120,7 +132,7 @@ asked_is before session ordinal old new after moves =
 
 -- COMMIT that was refused, as an act
 refused : (engine : Between) (session ordinal : ℕ) (old : Transaction) (why : CommitFault) (new : State) (told : Result Told AllocError)
-    → Found engine.alone engine.free engine.old (λ mid. Refuses mid (record {
+    → During engine.old (λ mid. Refuses engine.opened mid (record {
       snap = old.pin.n;
       reads = old.reads;
       change = record { mode = Concurrent; base = old.pin.size; changed = old.changed; fresh = []; freed = []; tail = false };
@@ -137,7 +149,7 @@ refused engine session ordinal old (Stopped log at) new told found is =
     subst (λ (told : Result Told AllocError). IfOk told (λ told. (before after : List Seat) → Moves before session ordinal (Open old) new after
     → CommitOpen engine session before after old told)) (sym is.0)
     (λ before after moves. (
-      subst (λ (asked : Submitted). Found engine.alone engine.free engine.old (λ mid. Refuses mid asked (Stopped log at) engine.new))
+      subst (λ (asked : Submitted). During engine.old (λ mid. Refuses engine.opened mid asked (Stopped log at) engine.new))
           (asked_is before session ordinal old new after moves) found,
       moves.rests is.1,
     ))
@@ -145,7 +157,7 @@ refused engine session ordinal old (BusySnapshot page number) new told found is 
     subst (λ (told : Result Told AllocError). IfOk told (λ told. (before after : List Seat) → Moves before session ordinal (Open old) new after
     → CommitOpen engine session before after old told)) (sym is.0)
     (λ before after moves. (
-      subst (λ (asked : Submitted). Found engine.alone engine.free engine.old (λ mid. Refuses mid asked (BusySnapshot page number) engine.new))
+      subst (λ (asked : Submitted). During engine.old (λ mid. Refuses engine.opened mid asked (BusySnapshot page number) engine.new))
           (asked_is before session ordinal old new after moves) found,
       moves.put ∙ ap (λ (state : State). with_state before session state) is.1,
     ))
@@ -155,7 +167,7 @@ refused engine session ordinal old (SizeLimit pages frames) new told found is =
     (λ before after moves. (
       (
         frames,
-        subst (λ (asked : Submitted). Found engine.alone engine.free engine.old (λ mid. Refuses mid asked (SizeLimit pages frames) engine.new))
+        subst (λ (asked : Submitted). During engine.old (λ mid. Refuses engine.opened mid asked (SizeLimit pages frames) engine.new))
             (asked_is before session ordinal old new after moves) found,
       ),
       moves.rests is.1,
@@ -167,7 +179,7 @@ refused engine session ordinal old Disk new told found is =
     subst (λ (told : Result Told AllocError). IfOk told (λ told. (before after : List Seat) → Moves before session ordinal (Open old) new after
     → CommitOpen engine session before after old told)) (sym is.0)
     (λ before after moves. (
-      subst (λ (asked : Submitted). Found engine.alone engine.free engine.old (λ mid. Refuses mid asked Disk engine.new))
+      subst (λ (asked : Submitted). During engine.old (λ mid. Refuses engine.opened mid asked Disk engine.new))
           (asked_is before session ordinal old new after moves) found,
       moves.rests is.1,
     ))
@@ -175,7 +187,7 @@ refused engine session ordinal old (Corrupt page) new told found is = absurd is
 
 pub refused_acts : (engine : Between) (session ordinal : ℕ) (old back : Transaction) (why : CommitFault) (new : State) (told : Result Told AllocError)
     (fresh : List PageImage) (freed : List ℕ) → fresh ≡ [] → freed ≡ []
-    → Found engine.alone engine.free engine.old (λ mid. Refuses mid (record {
+    → During engine.old (λ mid. Refuses engine.opened mid (record {
       snap = old.pin.n;
       reads = old.reads;
       change = record { mode = Concurrent; base = old.pin.size; changed = old.changed; fresh = fresh; freed = freed; tail = false };
@@ -189,7 +201,7 @@ pub refused_acts : (engine : Between) (session ordinal : ℕ) (old back : Transa
     → CommitOpen engine session before after old told)
 refused_acts engine session ordinal old back why new told fresh freed none none_freed found same is =
     refused engine session ordinal old why new told
-    (subst (λ (freed : List ℕ). Found engine.alone engine.free engine.old (λ mid. Refuses mid (record {
+    (subst (λ (freed : List ℕ). During engine.old (λ mid. Refuses engine.opened mid (record {
       snap = old.pin.n;
       reads = old.reads;
       change = record { mode = Concurrent; base = old.pin.size; changed = old.changed; fresh = []; freed = freed; tail = false };
@@ -198,7 +210,7 @@ refused_acts engine session ordinal old back why new told fresh freed none none_
       session = session;
       ordinal = ordinal;
     }) why engine.new)) none_freed
-    (subst (λ (fresh : List PageImage). Found engine.alone engine.free engine.old (λ mid. Refuses mid (record {
+    (subst (λ (fresh : List PageImage). During engine.old (λ mid. Refuses engine.opened mid (record {
       snap = old.pin.n;
       reads = old.reads;
       change = record { mode = Concurrent; base = old.pin.size; changed = old.changed; fresh = fresh; freed = freed; tail = false };
@@ -209,38 +221,158 @@ refused_acts engine session ordinal old back why new told fresh freed none none_
     }) why engine.new)) none found))
     (subst (λ (one : Transaction). IsRefused why one new told) same is)
 
--- Sizes after a commit, and the end of its pin.
-done_sizes : (alone free : Type 0) (old mid new : Seen) (asked : Submitted) (receipt : Receipt) (pin : Pin) → Found alone free old (λ at. Accepts at asked receipt mid)
-    → Ends mid pin new → (old.size ≤ new.size) × (new.page_size ≡ old.page_size)
-done_sizes alone free old mid new asked (ReadOnly n) pin (before, later, accepts) ends =
-    let e : new.size ≡ before.size = ap (λ (seen : Seen). seen.size) ends ∙ ap (λ (seen : Seen). seen.size) accepts.2 in
-    let s = later.size in
-    (omega arith, ap (λ (seen : Seen). seen.page_size) ends ∙ (ap (λ (seen : Seen). seen.page_size) accepts.2 ∙ later.page_size))
-done_sizes alone free old mid new asked (At number) pin (before, later, accepts) ends =
-    let e : new.size ≡ before.size + length asked.change.fresh =
-    ap (λ (seen : Seen). seen.size) ends ∙ ap (λ (seen : Seen). seen.size) accepts.after_is in
-    let s = later.size in
-    (omega arith, ap (λ (seen : Seen). seen.page_size) ends ∙ (ap (λ (seen : Seen). seen.page_size) accepts.after_is ∙ later.page_size))
+-- what a commit leaves of the sizes, of who may commit and of who may begin
+pub record Leaves (old new : EngineState) : Type 0 where
+  pub pages : old.size ≤ new.size
+  pub page_size : new.page_size ≡ old.page_size
+  pub always_begins : new.always_begins ≡ old.always_begins
+  pub alone : new.alone ≡ old.alone
+
+leaves_twice : (old mid new : EngineState) → Leaves old mid → Leaves mid new → Leaves old new
+leaves_twice old mid new first then = record {
+  pages = (let a = first.pages in let b = then.pages in omega arith);
+  page_size = then.page_size ∙ first.page_size;
+  always_begins = then.always_begins ∙ first.always_begins;
+  alone = then.alone ∙ first.alone;
+}
+
+leaves_later : (old new : EngineState) → Later old new → Leaves old new
+leaves_later old new later =
+    record { pages = later.size; page_size = later.page_size; always_begins = later.always_begins; alone = later.alone }
+
+leaves_same : (old new : EngineState) → new ≡ old → Leaves old new
+leaves_same old new same =
+    subst (Leaves old) (sym same) (record { pages = omega arith; page_size = refl; always_begins = refl; alone = refl })
+
+leaves_readers : (old new : EngineState) (change : ℕ → ℕ) (lock : Lock) → new ≡ with_readers change lock old → Leaves old new
+leaves_readers old new change lock is = subst (Leaves old) (sym is) (by_test (old.always_begins && is_some old.logs))
+  where
+    by_test : (test : Bool) → Leaves old (cond test (record old { readers = change_readers change old.readers lock }) old)
+    by_test true = record { pages = omega arith; page_size = refl; always_begins = refl; alone = refl }
+    by_test false = leaves_same old old refl
+
+leaves_accepts : (opened : Opening → Type 0) (old new : EngineState) (asked : Submitted) (receipt : Receipt)
+    → AcceptsCommit opened old asked receipt new → Leaves old new
+leaves_accepts opened old new asked (ReadOnly n) accepts = leaves_same old new accepts.2
+leaves_accepts opened old new asked (At number) accepts =
+    let size = ap (λ (seen : EngineState). seen.size) accepts.after_is in
+    record {
+      pages = omega (arith, size);
+      page_size = ap (λ (seen : EngineState). seen.page_size) accepts.after_is;
+      always_begins = ap (λ (seen : EngineState). seen.always_begins) accepts.after_is;
+      alone = ap (λ (seen : EngineState). seen.alone) accepts.after_is;
+    }
 
 -- A commit keeps the pins, and the end of the transaction takes its own.
-pub done_stays : {E : Type 0} (seen : E → Seen) (live : E → List Pin → Type 0) (map_at : E → Pin → Option PageMap)
-    (begins : E → PageMap → Type 0) (free alone : E → Type 0) (loans : E → List ℕ) (old mid new : E) (asked : Submitted)
-    (receipt : Receipt) (pin : Pin)
-    → KeepsPins live map_at old mid → TakesPin live map_at mid pin new
-    → ((first : PageMap) → begins old first → begins new first) → (free old → free new) → (alone old → alone new)
-    → loans new ≡ loans old → Found (alone old) (free old) (seen old) (λ at. Accepts at asked receipt (seen mid)) → Ends (seen mid) pin (seen new)
-    → Stays seen live map_at begins free alone loans old (pin ∷ []) new []
-done_stays seen live map_at begins free alone loans old mid new asked receipt pin keeps takes runs is_free is_alone references found ends =
-    let sizes = done_sizes (alone old) (free old) (seen old) (seen mid) (seen new) asked receipt pin found ends in
+pub done_stays : {E M : Type 0} (told : Ghosts E M) (old mid new : E) (asked : Submitted) (receipt : Receipt) (pin : Pin)
+    → Stays told old mid → HasEnded told mid pin new → ((first : PageMap) → told.stands_from old first → told.stands_from mid first)
+    → During (told.state old) (λ at. AcceptsCommit (told.opened old) at asked receipt (told.state mid))
+    → SwapsPins told old (pin ∷ []) new []
+done_stays told old mid new asked receipt pin stays ended runs found =
+    let leaves = leaves_twice (told.state old) (told.state mid) (told.state new)
+    (leaves_twice (told.state old) found.0 (told.state mid) (leaves_later (told.state old) found.0 found.1)
+    (leaves_accepts (told.opened old) found.0 (told.state mid) asked receipt found.2))
+    (leaves_readers (told.state mid) (told.state new) one_fewer pin.lock ended.event) in
     record {
-      holds = λ front back lives. takes.taken front back (keeps.hold (front ++ (pin ∷ back)) lives);
-      maps = λ front back other lives there stays.
-          takes.maps other (front ++ back, takes.taken front back (keeps.hold (front ++ (pin ∷ back)) lives), stays)
-          ∙ keeps.maps other (front ++ (pin ∷ back), lives, there);
-      runs = runs;
-      is_free = is_free;
-      is_alone = is_alone;
-      references = references;
-      pages = sizes.0;
-      page_size = sizes.1;
+      holds = λ front back lives. ended.pins.taken front back (stays.pins.hold (front ++ (pin ∷ back)) lives);
+      maps = λ front back other lives there stay.
+          ended.pins.maps other (front ++ back, ended.pins.taken front back (stays.pins.hold (front ++ (pin ∷ back)) lives), stay)
+          ∙ stays.pins.maps other (front ++ (pin ∷ back), lives, there);
+      runs = λ first stands. ended.runs first (runs first stands);
+      opened = λ one is. ended.opened one (stays.opened one is);
+      loans = ended.loans ∙ stays.loans;
+      always_begins = leaves.always_begins;
+      alone = leaves.alone;
+      pages = leaves.pages;
+      page_size = leaves.page_size;
     }
+
+-- BEGIN adds its pin.
+pub begun_stays : {E M : Type 0} (told : Ghosts E M) (old : E) (pin : Pin) (new : E) → HasBegun told old pin new
+    → SwapsPins told old [] new (pin ∷ [])
+begun_stays told old pin new begun =
+    let event = begun.event in
+    let leaves = leaves_twice (told.state old) event.2.0 (told.state new)
+    (leaves_twice (told.state old) event.0 event.2.0 (leaves_later (told.state old) event.0 event.1)
+    (leaves_readers event.0 event.2.0 one_more pin.lock event.2.1.after_is))
+    (leaves_later event.2.0 (told.state new) event.2.2) in
+    record {
+      holds = λ front back lives. begun.pins.added front back lives;
+      maps = λ front back other lives was is. begun.pins.maps other (front ++ back, lives, was);
+      runs = begun.runs;
+      opened = begun.opened;
+      loans = begun.loans;
+      always_begins = leaves.always_begins;
+      alone = leaves.alone;
+      pages = leaves.pages;
+      page_size = leaves.page_size;
+    }
+
+-- A run goes on where its change is good.
+pub commit_runs : {E M : Type 0} (means : Meaning M) (told : Ghosts E M) (old : E) (pin : Pin) (prepared : Prepared M) (receipt : Receipt) (new : E)
+    → ((first : PageMap) → told.stands_from old first
+    → IfSome (told.map_at old pin) (λ snapshot. IsGood (means.sound first) (means.leads first) snapshot prepared))
+    → CommitKeepsRuns means told old pin prepared (Ok receipt) new
+    → (first : PageMap) → told.stands_from old first → told.stands_from new first
+commit_runs means told old pin prepared (At number) new is_good runs = λ first stands. runs first stands (is_good first stands)
+commit_runs means told old pin prepared (ReadOnly n) new is_good runs = runs
+
+-- A change that makes and frees no page meets no page of the freelist.
+pub refuses_lines : (opened : Opening → Type 0) (stands : Type 0) (before : EngineState) (asked : Submitted) (why : CommitFault)
+    (after : EngineState) → asked.change.fresh ≡ [] → asked.change.freed ≡ [] → RefusesCommit opened stands before asked why after
+    → Refuses opened before asked why after × ((page : ℕ) → why ≢ Corrupt page)
+refuses_lines opened stands before asked (Stopped log at) after fresh freed refuses = (refuses, λ page e. absurd cc)
+refuses_lines opened stands before asked (BusySnapshot page number) after fresh freed refuses = (refuses, λ page e. absurd cc)
+refuses_lines opened stands before asked (SizeLimit pages frames) after fresh freed refuses = (refuses, λ page e. absurd cc)
+refuses_lines opened stands before asked Memory after fresh freed refuses = (refuses, λ page e. absurd cc)
+refuses_lines opened stands before asked Disk after fresh freed refuses = (refuses, λ page e. absurd cc)
+refuses_lines opened stands before asked (Corrupt page) after fresh freed refuses =
+    elim (refuses.1.needed) [ inl some ↦ absurd (some freed) | inr some ↦ absurd (some fresh) ]
+
+pub refuses_during : (opened : Opening → Type 0) (stands : Type 0) (before : EngineState) (asked : Submitted) (why : CommitFault)
+    (after : EngineState) → asked.change.fresh ≡ [] → asked.change.freed ≡ []
+    → During before (λ mid. RefusesCommit opened stands mid asked why after)
+    → During before (λ mid. Refuses opened mid asked why after) × ((page : ℕ) → why ≢ Corrupt page)
+refuses_during opened stands before asked why after fresh freed (mid, later, refuses) =
+    let both = refuses_lines opened stands mid asked why after fresh freed refuses in
+    ((mid, later, both.0), both.1)
+
+-- COMMIT that was answered well, as an act
+pub done_acts : (engine : Between) (session ordinal : ℕ) (old : Transaction) (new : State) (receipt : Receipt) (done : EngineState)
+    (fresh : List PageImage) (freed : List ℕ) → fresh ≡ [] → freed ≡ [] → new ≡ Out
+    → During engine.old (λ mid. AcceptsCommit engine.opened mid (record {
+      snap = old.pin.n;
+      reads = old.reads;
+      change = record { mode = Concurrent; base = old.pin.size; changed = old.changed; fresh = fresh; freed = freed; tail = false };
+      said = old.said;
+      wrote = old.wrote;
+      session = session;
+      ordinal = ordinal;
+    }) receipt done)
+    → Ends done old.pin engine.new
+    → (before after : List Seat) → Moves before session ordinal (Open old) new after
+    → CommitOpen engine session before after old (Done receipt)
+unfolding asked_by
+done_acts engine session ordinal old new receipt done fresh freed none none_freed out found ends before after moves =
+    let asked : (fresh : List PageImage) (freed : List ℕ) → Submitted = λ fresh freed. record {
+      snap = old.pin.n;
+      reads = old.reads;
+      change = record { mode = Concurrent; base = old.pin.size; changed = old.changed; fresh = fresh; freed = freed; tail = false };
+      said = old.said;
+      wrote = old.wrote;
+      session = session;
+      ordinal = ordinal;
+    } in
+    let bare : asked fresh freed ≡ submitted_of before session old =
+    ap (λ (fresh : List PageImage). asked fresh freed) none ∙ (ap (asked []) none_freed ∙ asked_is before session ordinal old new after moves) in (
+      (
+        found.0,
+        found.1,
+        (done, subst (λ (one : Submitted). AcceptsCommit engine.opened found.0 one receipt done) bare found.2, ends),
+      ),
+      moves.put ∙ ap (λ (state : State). with_state before session state) out,
+    )
+
+-- An engine that tells what it told changed at no moment of the call.
+pub still : (old new : EngineState) → new ≡ old → During old (λ mid. new ≡ mid)
+still old new same = during_here old (λ mid. new ≡ mid) same

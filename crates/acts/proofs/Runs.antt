@@ -6,27 +6,28 @@ use Rattle.page_spec.specs.PageMap.{PageMap}
 use Rattle.engine_spec.specs.declared.pins.Pin.{Pin}
 use Rattle.page_lines.specs.declared.lines.Act.{Act}
 use Rattle.page_lines.specs.declared.lines.Told.{Told}
-use Rattle.engine_spec.specs.Seen.{Seen}
+use Rattle.crash_spec.specs.Opening.{Opening}
+use Rattle.engine_spec.specs.State.{EngineState}
 use Rattle.acts.specs.declared.seats.Seat.{Seat}
 use Rattle.acts.specs.Pagers.{Acts, KeepsMaps, Plays, pins_of}
 use Rattle.acts.proofs.Growth.{acts_under}
 
 -- one act more
-pub plays_next : (alone free alone_then free_then : Type 0) (old mid new : Seen) (maps maps_then : Pin → Option PageMap)
+pub plays_next : (opened opened_then : Opening → Type 0) (old mid new : EngineState) (maps maps_then : Pin → Option PageMap)
     (seats seats_then : List Seat) (acts : List Act) (i : ℕ) (act : Act) (answer : Told) (answers : List Told)
-    → i < length acts → act ≡ get_or acts i act → (alone → alone_then) → (free → free_then)
-    → Acts (record { alone = alone_then; free = free_then; old = old; new = mid; map_before = maps; map_after = maps_then }) seats act answer seats_then
-    → KeepsMaps seats maps seats_then maps_then → Plays alone free mid maps_then seats_then (drop (i + 1) acts) answers new
-    → Plays alone free old maps seats (drop i acts) (answer ∷ answers) new
-plays_next alone free alone_then free_then old mid new maps maps_then seats seats_then acts i act answer answers within item alone_stays free_stays acted keeps rest =
+    → i < length acts → act ≡ get_or acts i act → ((one : Opening) → opened one → opened_then one)
+    → Acts (record { opened = opened_then; old = old; new = mid; map_before = maps; map_after = maps_then }) seats act answer seats_then
+    → KeepsMaps seats maps seats_then maps_then → Plays opened mid maps_then seats_then (drop (i + 1) acts) answers new
+    → Plays opened old maps seats (drop i acts) (answer ∷ answers) new
+plays_next opened opened_then old mid new maps maps_then seats seats_then acts i act answer answers within item onward acted keeps rest =
     let next : suc i ≡ i + 1 = omega arith in
     let split : drop i acts ≡ act ∷ drop (i + 1) acts =
     drop-cons acts i act within ∙ (ap (λ (one : Act). one ∷ drop (suc i) acts) (sym item) ∙ ap (λ (k : ℕ). act ∷ drop k acts) next) in
-    subst (λ (left : List Act). Plays alone free old maps seats left (answer ∷ answers) new) (sym split) (
+    subst (λ (left : List Act). Plays opened old maps seats left (answer ∷ answers) new) (sym split) (
       mid,
       maps_then,
       seats_then,
-      acts_under alone free alone_then free_then old mid maps maps_then seats act answer seats_then alone_stays free_stays acted,
+      acts_under opened opened_then old mid maps maps_then seats act answer seats_then onward acted,
       keeps,
       rest,
     )

@@ -1,5 +1,5 @@
 -- What an act on one seat means for the list of seats and the pins in it.
-use Rattle.std.proofs.Common.{◌≡◌, ℕ, ◌<◌, List, [], ◌∷◌, ◌++◌, length, set, get_or, take, drop, eqb, Option, Some, None, Result, Ok, Err, suc, refl, sym, subst, ap, ◌∙◌, append_assoc}
+use Rattle.std.proofs.Common.{◌≡◌, ℕ, ◌<◌, List, [], ◌∷◌, ◌++◌, length, set, get_or, take, drop, eqb, Some, None, Result, Ok, Err, suc, refl, sym, subst, ap, ◌∙◌, append_assoc}
 use Rattle.std.specs.Prelude.{Contains, IfOk}
 use Rattle.std.specs.List.{position}
 use Rattle.std.specs.declared.alloc.AllocError.{AllocError}
@@ -7,19 +7,18 @@ use Rattle.std.proofs.lemmas.List.{set-get_or, set_split, set_at, append-nil, ge
 use Rattle.std.proofs.Math.Seq.{get_or-append_seam}
 use Rattle.std.proofs.lemmas.List.Concat.{flat_map-append}
 use Rattle.std.proofs.lemmas.List.Elements.{Contains-append_left, Contains-append_right}
-use Rattle.page_spec.specs.PageMap.{PageMap}
 use Rattle.engine_spec.specs.declared.pins.Pin.{Pin}
 use Rattle.page_lines.specs.declared.lines.Told.{Told}
 use Rattle.page_lines.specs.declared.lines.Told.TheVariants as reply
-use Rattle.engine_spec.specs.Logs.{one_more}
-use Rattle.engine_spec.specs.Seen.{Seen}
+use Rattle.disk_face.specs.Faults.{one_more}
+use Rattle.page_face.specs.declared.engine_tells.EngineTells.{Ghosts}
 use Rattle.acts.specs.declared.seats.Seat.{Seat}
 use Rattle.acts.specs.declared.seats.State.{State}
 use Rattle.acts.specs.declared.seats.State.TheVariants.{Out, Open, Refused}
 use Rattle.acts.specs.declared.turns.Deed.{Deed}
 use Rattle.acts.specs.declared.turns.Deed.TheVariants.{Read, Write, Commit, Rollback}
 use Rattle.acts.specs.Pagers.{Between, Acts, BeginActs, ReadActs, WriteActs, CommitActs, RollbackActs, state_of, begun_of, with_seat, pins_in, pins_of, new_transaction}
-use Rattle.acts.specs.Turns.{act_of, Moves, AllLive, Stays, HasBegun, IsBegun}
+use Rattle.acts.specs.Turns.{act_of, Moves, AllLive, SwapsPins, HasBegun, IsBegun}
 use Rattle.acts.proofs.Places.{IsSeated, seated, unseated}
 
 -- the pins of all sessions, once one seat is another
@@ -105,52 +104,50 @@ regroup : (front before pins after back : List Pin) → front ++ ((before ++ (pi
 regroup front before pins after back = simp append_assoc
 
 -- What stays of an engine where some pins became others, stays where they stand among others.
-pub wider : {E : Type 0} (seen : E → Seen) (live : E → List Pin → Type 0) (map_at : E → Pin → Option PageMap)
-    (begins : E → PageMap → Type 0) (free alone : E → Type 0) (loans : E → List ℕ) (old : E) (olds : List Pin) (new : E) (news : List Pin)
-    (before after : List Pin) → Stays seen live map_at begins free alone loans old olds new news
-    → Stays seen live map_at begins free alone loans old (before ++ (olds ++ after)) new (before ++ (news ++ after))
-wider seen live map_at begins free alone loans old olds new news before after stays = record {
-  holds = λ front back lives. subst (live new) (sym (regroup front before news after back))
-      (stays.holds (front ++ before) (after ++ back) (subst (live old) (regroup front before olds after back) lives));
+pub wider : {E M : Type 0} (told : Ghosts E M) (old : E) (olds : List Pin) (new : E) (news : List Pin)
+    (before after : List Pin) → SwapsPins told old olds new news
+    → SwapsPins told old (before ++ (olds ++ after)) new (before ++ (news ++ after))
+wider told old olds new news before after stays = record {
+  holds = λ front back lives. subst (told.live new) (sym (regroup front before news after back))
+      (stays.holds (front ++ before) (after ++ back) (subst (told.live old) (regroup front before olds after back) lives));
   maps = λ front back pin lives was is. stays.maps (front ++ before) (after ++ back) pin
-      (subst (live old) (regroup front before olds after back) lives)
+      (subst (told.live old) (regroup front before olds after back) lives)
       (subst (λ (pins : List Pin). Contains pins pin) (regroup front before olds after back) was)
       (subst (λ (pins : List Pin). Contains pins pin) (regroup front before news after back) is);
   runs = stays.runs;
-  is_free = stays.is_free;
-  is_alone = stays.is_alone;
-  references = stays.references;
+  opened = stays.opened;
+  loans = stays.loans;
+  always_begins = stays.always_begins;
+  alone = stays.alone;
   pages = stays.pages;
   page_size = stays.page_size;
 }
 
 -- where one seat became another
-pub seat_stays : {E : Type 0} (seen : E → Seen) (live : E → List Pin → Type 0) (map_at : E → Pin → Option PageMap)
-    (begins : E → PageMap → Type 0) (free alone : E → Type 0) (loans : E → List ℕ) (old new : E) (seats : List Seat) (session at : ℕ) (seat turned : Seat)
+pub seat_stays : {E M : Type 0} (told : Ghosts E M) (old new : E) (seats : List Seat) (session at : ℕ) (seat turned : Seat)
     → position (λ seat. eqb seat.session session) seats ≡ Some at → seat ≡ get_or seats at seat
-    → Stays seen live map_at begins free alone loans old (pins_in seat.state) new (pins_in turned.state)
-    → Stays seen live map_at begins free alone loans old (pins_of seats) new (pins_of (set seats at turned))
-seat_stays seen live map_at begins free alone loans old new seats session at seat turned found item stays =
+    → SwapsPins told old (pins_in seat.state) new (pins_in turned.state)
+    → SwapsPins told old (pins_of seats) new (pins_of (set seats at turned))
+seat_stays told old new seats session at seat turned found item stays =
     let place = seated seats session at found in
-    subst (λ (pins : List Pin). Stays seen live map_at begins free alone loans old pins new (pins_of (set seats at turned)))
+    subst (λ (pins : List Pin). SwapsPins told old pins new (pins_of (set seats at turned)))
     (sym (pins_split seats at seat place.within item))
-    (subst (λ (pins : List Pin). Stays seen live map_at begins free alone loans old
+    (subst (λ (pins : List Pin). SwapsPins told old
     (pins_of (take at seats) ++ (pins_in seat.state ++ pins_of (drop (suc at) seats))) new pins)
     (sym (pins_set seats at turned place.within))
-    (wider seen live map_at begins free alone loans old (pins_in seat.state) new (pins_in turned.state)
+    (wider told old (pins_in seat.state) new (pins_in turned.state)
     (pins_of (take at seats)) (pins_of (drop (suc at) seats)) stays))
 
 -- where a seat was put at the end
-pub new_stays : {E : Type 0} (seen : E → Seen) (live : E → List Pin → Type 0) (map_at : E → Pin → Option PageMap)
-    (begins : E → PageMap → Type 0) (free alone : E → Type 0) (loans : E → List ℕ) (old new : E) (seats : List Seat) (turned : Seat)
-    → Stays seen live map_at begins free alone loans old [] new (pins_in turned.state)
-    → Stays seen live map_at begins free alone loans old (pins_of seats) new (pins_of (seats ++ turned ∷ []))
-new_stays seen live map_at begins free alone loans old new seats turned stays =
-    subst (λ (pins : List Pin). Stays seen live map_at begins free alone loans old pins new (pins_of (seats ++ turned ∷ [])))
+pub new_stays : {E M : Type 0} (told : Ghosts E M) (old new : E) (seats : List Seat) (turned : Seat)
+    → SwapsPins told old [] new (pins_in turned.state)
+    → SwapsPins told old (pins_of seats) new (pins_of (seats ++ turned ∷ []))
+new_stays told old new seats turned stays =
+    subst (λ (pins : List Pin). SwapsPins told old pins new (pins_of (seats ++ turned ∷ [])))
     (append-nil (pins_of seats))
-    (subst (λ (pins : List Pin). Stays seen live map_at begins free alone loans old (pins_of seats ++ []) new pins)
+    (subst (λ (pins : List Pin). SwapsPins told old (pins_of seats ++ []) new pins)
     (sym (flat_map-append (λ (seat : Seat). pins_in seat.state) seats (turned ∷ [])))
-    (wider seen live map_at begins free alone loans old [] new (pins_in turned.state) (pins_of seats) [] stays))
+    (wider told old [] new (pins_in turned.state) (pins_of seats) [] stays))
 
 -- BEGIN of a session that has a seat, as an act
 pub begin_acts : (engine : Between) (seats : List Seat) (session at : ℕ) (seat new : Seat) (told : Told)
@@ -233,12 +230,11 @@ pushed_acts engine seats pushed session at seat new none is last item begun =
     (new_acts engine seats session seat new none
     (pushed_item seats pushed at (record { session = session; begun = 0; state = Out }) seat is last item) begun)
 
-pub pushed_stays : {E : Type 0} (seen : E → Seen) (live : E → List Pin → Type 0) (map_at : E → Pin → Option PageMap)
-    (begins : E → PageMap → Type 0) (free alone : E → Type 0) (loans : E → List ℕ) (old new : E) (seats pushed : List Seat) (at : ℕ)
+pub pushed_stays : {E M : Type 0} (told : Ghosts E M) (old new : E) (seats pushed : List Seat) (at : ℕ)
     (blank turned : Seat) → pushed ≡ seats ++ blank ∷ [] → length seats ≡ at
-    → Stays seen live map_at begins free alone loans old [] new (pins_in turned.state)
-    → Stays seen live map_at begins free alone loans old (pins_of seats) new (pins_of (set pushed at turned))
-pushed_stays seen live map_at begins free alone loans old new seats pushed at blank turned is last stays =
-    subst (λ (after : List Seat). Stays seen live map_at begins free alone loans old (pins_of seats) new (pins_of after))
+    → SwapsPins told old [] new (pins_in turned.state)
+    → SwapsPins told old (pins_of seats) new (pins_of (set pushed at turned))
+pushed_stays told old new seats pushed at blank turned is last stays =
+    subst (λ (after : List Seat). SwapsPins told old (pins_of seats) new (pins_of after))
     (sym (pushed_set seats pushed at blank turned is last))
-    (new_stays seen live map_at begins free alone loans old new seats turned stays)
+    (new_stays told old new seats turned stays)

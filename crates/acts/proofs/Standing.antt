@@ -1,5 +1,5 @@
 -- An engine under its sessions stands at a world: what keeps it there.
-use Rattle.std.proofs.Common.{◌≡◌, ◌∙◌, ℕ, Bool, cond, List, refl, sym, ap, subst, inl, inr, arith, eq-eqb}
+use Rattle.std.proofs.Common.{◌≡◌, ◌∙◌, ℕ, Bool, true, cond, List, refl, sym, ap, subst, inl, inr, arith, eq-eqb}
 use Rattle.std.specs.Prelude.{◌⊎◌, Option, None, Contains}
 use Rattle.std.proofs.lemmas.Bool.{cases_eq, ne_eqb}
 use Rattle.disk_face.specs.Faults.{Rose}
@@ -7,7 +7,9 @@ use Rattle.page_spec.specs.PageMap.{PageMap}
 use Rattle.engine_spec.specs.declared.pins.Pin.{Pin}
 use Rattle.page_lines.specs.declared.lines.Act.{Act}
 use Rattle.page_lines.specs.declared.lines.Told.{Told}
-use Rattle.engine_spec.specs.Seen.{Seen, Found, Ends, Fails, OnlyFaults, without_reader}
+use Rattle.engine_spec.specs.State.{EngineState, During}
+use Rattle.engine_spec.specs.TwoLogs.{one_fewer}
+use Rattle.engine_spec.specs.Events.{Ends, FailsAlone, FailsInStep}
 use Rattle.page_lines.specs.World.{World, SessionState, Outcome, changed_at, map_number, newest_map, step, begin_step, read_step, write_step, commit_step, rollback_step, commit, committed, moved, decided, change_of, submitted}
 use Rattle.page_lines.specs.World as run
 use Rattle.acts.specs.declared.seats.Seat.{Seat}
@@ -15,21 +17,21 @@ use Rattle.acts.specs.declared.seats.State.{State}
 use Rattle.acts.specs.declared.seats.State.TheVariants as seat
 use Rattle.acts.specs.Pagers.{Between, Same, AreSound, state_of, begun_of, with_seat, pins_in, pins_of}
 use Rattle.acts.specs.Playing.{IsOfSession, HasNoLimit}
-use Rattle.acts.specs.InMemory.{TellsOf, PinStands, Matches, StandsAt}
+use Rattle.acts.specs.Standing.{TellsOf, PinStands, Matches, StandsAt}
 use Rattle.acts.proofs.SeatLaws.{state_of-same, state_of-other, begun_of-same, begun_of-other, pin_there}
-use Rattle.acts.proofs.Telling.{Extends, extends_same, pin_keeps, tells_as}
+use Rattle.acts.proofs.Telling.{Extends, extends_same, pin_keeps, tells_readers}
 
 -- What an act finds: an engine that is alone and stands at the world, whose disk doesn't fail meanwhile, and which keeps the maps
 -- of pins.
 pub record Stands (engine : Between) (seats after : List Seat) (world : World) : Type 0 where
-  pub alone : engine.alone
+  pub alone : engine.old.alone ≡ true
   pub stands : StandsAt engine.old engine.map_before seats world
   pub sound : AreSound engine.old.page_size seats
   pub quiet : Rose engine.old.faults engine.new.faults → ⊥
   pub maps : (pin : Pin) → Contains (pins_of after) pin → Contains (pins_of seats) pin → engine.map_after pin ≡ engine.map_before pin
 
 -- there are no logs, or else the act is of a session and met no limit
-abbrev pub MindsNoLogs : Seen → Act → Told → Type 0
+abbrev pub MindsNoLogs : EngineState → Act → Told → Type 0
 MindsNoLogs seen one told = (seen.logs ≡ None) ⊎ (IsOfSession one × HasNoLimit told)
 
 -- what an act leads to: the answer of the world, and an engine that stands at the world after it
@@ -123,7 +125,7 @@ turn engine seats after world next s state session b same tells extends matches 
 pub tells_same : (engine : Between) (seats after : List Seat) (world : World) → Stands engine seats after world → engine.new ≡ engine.old
     → TellsOf engine.new world.maps world.history
 tells_same engine seats after world b same =
-    subst (λ (s : Seen). TellsOf s world.maps world.history) (sym same) b.stands.tells
+    subst (λ (s : EngineState). TellsOf s world.maps world.history) (sym same) b.stands.tells
 
 -- an answer that changes nothing
 pub rests : (engine : Between) (seats after : List Seat) (world : World) (answer told : Told) → Stands engine seats after world
@@ -146,23 +148,25 @@ pin_stays engine seats after world s state before pin b is same old new stands =
     (pin_there seats s pin (subst (λ (x : State). Contains (pins_in x) pin) (sym is) old)))
     stands
 
--- where nothing but the faults may have changed, all stays as told
+-- where nothing changed, all stays as told
 pub tells_quiet : (engine : Between) (seats after : List Seat) (world : World) → Stands engine seats after world
-    → Found engine.alone engine.free engine.old (λ mid. OnlyFaults mid engine.new) → TellsOf engine.new world.maps world.history
-tells_quiet engine seats after world b found =
-    let old : found.0 ≡ engine.old = found.1.nobody b.alone in
-    let new : engine.new ≡ record engine.old { faults = engine.new.faults } =
-    found.2.1 ∙ ap (λ (seen : Seen). record seen { faults = engine.new.faults }) old in
-    tells_as engine.old engine.new world.maps world.history engine.old.logs engine.new.faults new b.stands.tells
+    → During engine.old (λ mid. engine.new ≡ mid) → TellsOf engine.new world.maps world.history
+tells_quiet engine seats after world b found = tells_same engine seats after world b (found.2 ∙ found.1.nobody b.alone)
 
 -- the disk doesn't fail
 pub never_fails : (engine : Between) (seats after : List Seat) (world : World) → Stands engine seats after world
-    → Found engine.alone engine.free engine.old (λ mid. Fails mid engine.new) → ⊥
+    → During engine.old (λ mid. FailsAlone mid engine.new) → ⊥
 never_fails engine seats after world b found =
-    b.quiet (subst (λ (mid : Seen). Rose mid.faults engine.new.faults) (found.1.nobody b.alone) found.2.0)
+    b.quiet (subst (λ (mid : EngineState). Rose mid.faults engine.new.faults) (found.1.nobody b.alone) found.2.0)
+
+-- neither in a step of a checkpoint
+pub never_steps : (engine : Between) (seats after : List Seat) (world : World) → Stands engine seats after world
+    → During engine.old (λ mid. FailsInStep engine.opened mid engine.new) → ⊥
+never_steps engine seats after world b found =
+    b.quiet (subst (λ (mid : EngineState). Rose mid.faults engine.new.faults) (found.1.nobody b.alone) found.2.rose)
 
 -- what the engine tells once a pin was given back
 pub tells_ended : (engine : Between) (seats after : List Seat) (world : World) (pin : Pin) → Stands engine seats after world
     → Ends engine.old pin engine.new → TellsOf engine.new world.maps world.history
 tells_ended engine seats after world pin b ends =
-    tells_as engine.old engine.new world.maps world.history (without_reader engine.old.logs pin.lock) engine.old.faults ends b.stands.tells
+    tells_readers engine.old engine.new world.maps world.history one_fewer pin.lock ends b.stands.tells

@@ -9,50 +9,52 @@ use Rattle.page_lines.specs.declared.lines.Act.{Act}
 use Rattle.page_lines.specs.declared.lines.Act.TheVariants as act
 use Rattle.page_lines.specs.declared.lines.Told.{Told}
 use Rattle.page_lines.specs.declared.lines.Told.TheVariants as reply
-use Rattle.engine_spec.specs.Logs.{LogState, told_logs}
-use Rattle.engine_spec.specs.Seen.{Seen, Checkpoints}
+use Rattle.engine_spec.specs.TwoLogs.{TwoLogs, told_logs}
+use Rattle.crash_spec.specs.Opening.{Opening}
+use Rattle.engine_spec.specs.State.{EngineState}
+use Rattle.engine_spec.specs.Events.{Checkpoints}
 use Rattle.page_lines.specs.World.{World, SessionState, Outcome, changed_at, map_number, newest_map, step, begin_step, read_step, write_step, commit_step, rollback_step, commit, committed, moved, decided, change_of, submitted}
 use Rattle.page_lines.specs.World as run
 use Rattle.acts.specs.declared.seats.Seat.{Seat}
 use Rattle.acts.specs.Pagers.{Between, Acts, StepActs, Copies, state_of}
 use Rattle.acts.specs.Playing.{IsOfSession}
-use Rattle.acts.specs.InMemory.{TellsOf}
+use Rattle.acts.specs.Standing.{TellsOf}
 use Rattle.acts.proofs.Telling.{tells_as}
-use Rattle.acts.proofs.Standing.{Stands, Leads, MindsNoLogs, stay, tells_same, never_fails}
+use Rattle.acts.proofs.Standing.{Stands, Leads, MindsNoLogs, stay, tells_same, never_steps}
 use Rattle.acts.proofs.StandingStatements.{begin_acts, read_acts, write_acts, rollback_acts}
 use Rattle.acts.proofs.StandingCommits.{commit_acts}
 
 -- where there are no logs, a step of a checkpoint is idle and changes nothing
-idles : (old new : Seen) (answer : Ckpt) (maps : List PageMap) (history : List Commit) → TellsOf old maps history → old.logs ≡ None
-    → Checkpoints old answer new → (answer ≡ checkpoint.Idle) × TellsOf new maps history
-idles old new answer maps history tells none checks =
-    let there : (answer ≡ checkpoint.Idle) × (new.logs ≡ None) = rw none at checks.0 in
-    (there.0, tells_as old new maps history new.logs new.faults checks.2 tells)
+idles : (opened : Opening → Type 0) (old new : EngineState) (answer : Ckpt) (maps : List PageMap) (history : List Commit)
+    → TellsOf old maps history → old.logs ≡ None → Checkpoints opened old answer new → (answer ≡ checkpoint.Idle) × TellsOf new maps history
+idles opened old new answer maps history tells none checks =
+    let there : (answer ≡ checkpoint.Idle) × (new.logs ≡ None) = rw none at checks.steps in
+    (there.0, tells_as old new maps history old.faults new.logs old.readers new.disk checks.after_is tells)
 
 -- one step of a checkpoint, at once
 step_acts : (engine : Between) (seats after : List Seat) (world : World) (told : Told) → Stands engine seats after world
     → engine.old.logs ≡ None → after ≡ seats → StepActs engine told → Leads engine after told (run.same world (reply.Ckpt checkpoint.Idle))
 step_acts engine seats after world told b none same acts = elim acts [
-  | inl fails ↦ absurd (never_fails engine seats after world b fails.1)
+  | inl fails ↦ absurd (never_steps engine seats after world b fails.1)
   | inr answers ↦
-      (let checks : Checkpoints engine.old answers.0 engine.new =
-      subst (λ (mid : Seen). Checkpoints mid answers.0 engine.new) (answers.2.1.nobody b.alone) answers.2.2 in
-      let idle = idles engine.old engine.new answers.0 world.maps world.history b.stands.tells none checks in
+      (let checks : Checkpoints engine.opened engine.old answers.0 engine.new =
+      subst (λ (mid : EngineState). Checkpoints engine.opened mid answers.0 engine.new) (answers.2.1.nobody b.alone) answers.2.2 in
+      let idle = idles engine.opened engine.old engine.new answers.0 world.maps world.history b.stands.tells none checks in
       (answers.1 ∙ ap reply.Ckpt idle.0, stay engine seats after world b same idle.1))
 ]
 
 -- steps of a checkpoint until one copies no page: the first is idle
 copy_acts : (engine : Between) (seats after : List Seat) (world : World) (told : Told) (answers : List Ckpt) → Stands engine seats after world
-    → engine.old.logs ≡ None → after ≡ seats → Copies engine.alone engine.free answers engine.old told engine.new
+    → engine.old.logs ≡ None → after ≡ seats → Copies engine.opened answers engine.old told engine.new
     → Leads engine after told (run.same world (reply.Ckpt checkpoint.Idle))
 copy_acts engine seats after world told [] b none same copies = elim copies [
-  | inl fails ↦ absurd (never_fails engine seats after world b fails.1)
+  | inl fails ↦ absurd (never_steps engine seats after world b fails.1)
   | inr answers ↦ step_acts engine seats after world told b none same (inr (answers.0, answers.2, answers.3))
 ]
 copy_acts engine seats after world told (answer ∷ answers) b none same copies =
-    let checks : Checkpoints engine.old answer copies.0 =
-    subst (λ (mid : Seen). Checkpoints mid answer copies.0) (copies.3.1.nobody b.alone) copies.3.2 in
-    let idle : answer ≡ checkpoint.Idle = (rw none at checks.0).0 in
+    let checks : Checkpoints engine.opened engine.old answer copies.0 =
+    subst (λ (mid : EngineState). Checkpoints engine.opened mid answer copies.0) (copies.3.1.nobody b.alone) copies.3.2 in
+    let idle : answer ≡ checkpoint.Idle = (rw none at checks.steps).0 in
     let copied : answer ≡ checkpoint.Copied copies.1 = copies.2 in
     absurd cc
 
@@ -61,13 +63,13 @@ logs_acts : (engine : Between) (seats after : List Seat) (world : World) (told :
     → engine.old.logs ≡ None → Acts engine seats act.Logs told after → Leads engine after told (step world act.Logs)
 logs_acts engine seats after world told b none acts =
     let old : acts.1.0 ≡ engine.old = acts.1.1.nobody b.alone in (
-      acts.1.2.0 ∙ ap (λ (seen : Seen). reply.Logs (told_logs seen.logs)) old
-          ∙ ap (λ (logs : Option LogState). reply.Logs (told_logs logs)) none,
+      acts.1.2.0 ∙ ap (λ (seen : EngineState). reply.Logs (told_logs seen.logs seen.history)) old
+          ∙ ap (λ (logs : Option TwoLogs). reply.Logs (told_logs logs engine.old.history)) none,
       stay engine seats after world b acts.0 (tells_same engine seats after world b (acts.1.2.1 ∙ old)),
     )
 
 -- where an act may look after the logs, there are none
-no_logs : (seen : Seen) (one : Act) (told : Told) → (IsOfSession one → ⊥) → MindsNoLogs seen one told → seen.logs ≡ None
+no_logs : (seen : EngineState) (one : Act) (told : Told) → (IsOfSession one → ⊥) → MindsNoLogs seen one told → seen.logs ≡ None
 no_logs seen one told never minds = elim minds [ inl none ↦ none | inr other ↦ absurd (never other.0) ]
 
 -- An act over an engine that is alone and stands at a world is answered as the world is, and then the engine stands at the world

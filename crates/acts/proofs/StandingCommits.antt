@@ -14,18 +14,22 @@ use Rattle.page_lines.specs.declared.lines.Told.{Told}
 use Rattle.page_lines.specs.declared.lines.Told.TheVariants as reply
 use Rattle.engine_spec.specs.Change.{laid}
 use Rattle.engine_spec.specs.History.{conflict}
-use Rattle.engine_spec.specs.Seen.{Seen, Submitted, Ends, Accepts, Refuses, commit_of}
-use Rattle.page_lines.specs.World.{World, SessionState, Outcome, changed_at, map_number, newest_map, step, begin_step, read_step, write_step, commit_step, rollback_step, commit, committed, moved, decided, change_of, submitted}
+use Rattle.engine_spec.specs.State.{EngineState}
+use Rattle.engine_spec.specs.TwoLogs.{one_fewer}
+use Rattle.engine_spec.specs.Written.{Submitted, commit_of}
+use Rattle.engine_spec.specs.Events.{Ends, AcceptsCommit}
+use Rattle.page_lines.specs.World.{World, SessionState, Outcome, changed_at, map_number, newest_map, step, begin_step, read_step, write_step, commit_step, rollback_step, commit, committed, moved, decided, change_of, submitted, commit_in, pages_written}
 use Rattle.page_lines.specs.World as run
+use Rattle.page_lines.proofs.Written.{writes_is}
 use Rattle.engine_spec.proofs.Conflicts.{conflict_none, conflict_is}
 use Rattle.acts.specs.declared.seats.Seat.{Seat}
 use Rattle.acts.specs.declared.seats.State.{State}
 use Rattle.acts.specs.declared.seats.State.TheVariants as seat
 use Rattle.acts.specs.declared.seats.Transaction.{Transaction}
-use Rattle.acts.specs.Pagers.{Between, CommitOpen, CommitActs, IsSoundTransaction, IsSoundState, state_of, begun_of, with_seat, submitted_of}
-use Rattle.acts.specs.InMemory.{TellsOf, PinStands, IsTransaction, Matches}
+use Rattle.acts.specs.Pagers.{Between, Refuses, CommitOpen, CommitActs, IsSoundTransaction, IsSoundState, state_of, begun_of, with_seat, submitted_of}
+use Rattle.acts.specs.Standing.{TellsOf, PinStands, IsTransaction, Matches}
 use Rattle.acts.proofs.SeatLaws.{sound_at}
-use Rattle.acts.proofs.Telling.{extends_same, extends_push, tells_more, not_over}
+use Rattle.acts.proofs.Telling.{extends_same, extends_push, tells_more, tells_readers, not_over}
 use Rattle.acts.proofs.Standing.{Stands, Leads, MindsNoLogs, turn, tells_same, rests, pin_stays, tells_ended}
 
 -- what a transaction hands in is what the world commits
@@ -74,11 +78,11 @@ read_only_is world s transaction wrote =
 committed_acts : (engine : Between) (seats after : List Seat) (world : World) (s : ℕ) (held : Transaction)
     (transaction : run.Transaction) (receipt : Receipt) → Stands engine seats after world → state_of seats s ≡ seat.Open held
     → IsTransaction held transaction → PinStands engine.map_before world.maps held.pin
-    → (done : Seen) → Accepts engine.old (submitted_of seats s held) receipt done → Ends done held.pin engine.new
+    → (done : EngineState) → AcceptsCommit engine.opened engine.old (submitted_of seats s held) receipt done → Ends done held.pin engine.new
     → after ≡ with_seat seats (record { session = s; begun = begun_of seats s; state = seat.Out })
     → Leads engine after (reply.Done receipt) (commit world s transaction)
 committed_acts engine seats after world s held transaction (ReadOnly n) b is same pin done accepts ends put =
-    let new : Ends engine.old held.pin engine.new = subst (λ (seen : Seen). Ends seen held.pin engine.new) accepts.2 ends in
+    let new : Ends engine.old held.pin engine.new = subst (λ (seen : EngineState). Ends seen held.pin engine.new) accepts.2 ends in
     let n_is : n ≡ transaction.snap = accepts.1 ∙ sym same.snap in
     subst (Leads engine after (reply.Done (ReadOnly n))) (sym (read_only_is world s transaction (same.wrote ∙ accepts.0))) (
       ap (λ (k : ℕ). reply.Done (ReadOnly k)) n_is,
@@ -97,21 +101,27 @@ committed_acts engine seats after world s held transaction (At number) b is same
     ∙ ap (λ (n : ℕ). conflict Concurrent held.reads n world.history) same.snap
     ∙ ap (conflict Concurrent held.reads held.pin.n) (sym tells.history_is)
     ∙ conflict_none Concurrent held.reads held.pin.n engine.old.history accepts.clear.free in
-    let told : TellsOf engine.new (world.maps ++ laid (newest_map world) asked.change ∷ []) (world.history ++ commit_of asked ∷ []) =
-    tells_more engine.old engine.new world.maps world.history asked.change (commit_of asked) refl sound.images
-    (ap (λ (seen : Seen). seen.history) ends ∙ ap (λ (seen : Seen). seen.history) accepts.after_is)
-    (ap (λ (seen : Seen). seen.newest) ends ∙ ap (λ (seen : Seen). seen.newest) accepts.after_is)
-    (ap (λ (seen : Seen). seen.size) ends ∙ ap (λ (seen : Seen). seen.size) accepts.after_is)
-    (ap (λ (seen : Seen). seen.page_size) ends ∙ ap (λ (seen : Seen). seen.page_size) accepts.after_is)
-    (ap (λ (seen : Seen). seen.stopped) ends ∙ ap (λ (seen : Seen). seen.stopped) accepts.after_is)
-    tells in
+    let pages_are : accepts.pages ≡ pages_written held.changed =
+    writes_is engine.old.newest engine.old.size asked.change accepts.pages refl refl accepts.wrote in
+    let told : TellsOf done (world.maps ++ laid (newest_map world) asked.change ∷ []) (world.history ++ commit_of asked accepts.pages ∷ []) =
+    tells_more engine.old done world.maps world.history asked.change (commit_of asked accepts.pages) refl refl sound.images
+    (ap (λ (seen : EngineState). seen.history) accepts.after_is) (ap (λ (seen : EngineState). seen.newest) accepts.after_is)
+    (ap (λ (seen : EngineState). seen.size) accepts.after_is) (ap (λ (seen : EngineState). seen.page_size) accepts.after_is)
+    (ap (λ (seen : EngineState). seen.stopped) accepts.after_is) tells in
+    let ended : TellsOf engine.new (world.maps ++ laid (newest_map world) asked.change ∷ []) (world.history ++ commit_of asked accepts.pages ∷ []) =
+    tells_readers done engine.new _ _ one_fewer held.pin.lock ends told in
+    let same_commit : commit_of asked accepts.pages ≡ commit_in world s transaction =
+    ap (λ (pages : List ℕ). commit_of asked pages) (pages_are ∙ ap pages_written (sym same.changed))
+    ∙ ap (λ (one : Submitted). commit_of one (pages_written transaction.changed)) asked_is in
     let number_is : number ≡ length world.history + 1 =
     accepts.number_is ∙ ap (λ (commits : List Commit). length commits + 1) tells.history_is in
     subst (Leads engine after (reply.Done (At number))) (sym (commit_is world s transaction (same.wrote ∙ accepts.clear.wrote) free)) (
       ap (λ (k : ℕ). reply.Done (At k)) number_is,
       turn engine seats after world (committed world s transaction).world s seat.Out run.Out b put
-          (subst (λ (one : Submitted). TellsOf engine.new (world.maps ++ laid (newest_map world) one.change ∷ []) (world.history ++ commit_of one ∷ []))
-          asked_is told)
+          (subst (λ (one : Commit). TellsOf engine.new (world.maps ++ laid (newest_map world) (change_of world transaction) ∷ [])
+          (world.history ++ one ∷ [])) same_commit
+          (subst (λ (one : Submitted). TellsOf engine.new (world.maps ++ laid (newest_map world) one.change ∷ [])
+          (world.history ++ commit_of asked accepts.pages ∷ [])) asked_is ended))
           (extends_push world.maps (laid (newest_map world) (change_of world transaction))) tt (λ other. refl) (λ other. refl),
     )
 
@@ -122,14 +132,14 @@ commit_open : (engine : Between) (seats after : List Seat) (world : World) (s : 
     → CommitOpen engine s seats after held told → Leads engine after told (commit world s transaction)
 commit_open engine seats after world s held transaction (reply.Done receipt) b minds is same pin acts =
     let found = acts.0 in
-    let accepts : Accepts engine.old (submitted_of seats s held) receipt found.2.0 =
-    subst (λ (mid : Seen). Accepts mid (submitted_of seats s held) receipt found.2.0) (found.1.nobody b.alone) found.2.1 in
+    let accepts : AcceptsCommit engine.opened engine.old (submitted_of seats s held) receipt found.2.0 =
+    subst (λ (mid : EngineState). AcceptsCommit engine.opened mid (submitted_of seats s held) receipt found.2.0) (found.1.nobody b.alone) found.2.1 in
     committed_acts engine seats after world s held transaction receipt b is same pin found.2.0 accepts found.2.2 acts.1
 commit_open engine seats after world s held transaction (reply.Busy page number) b minds is same pin acts =
     let found = acts.0 in
     let tells = b.stands.tells in
-    let refuses : Refuses engine.old (submitted_of seats s held) (fault.BusySnapshot page number) engine.new =
-    subst (λ (mid : Seen). Refuses mid (submitted_of seats s held) (fault.BusySnapshot page number) engine.new) (found.1.nobody b.alone) found.2 in
+    let refuses : Refuses engine.opened engine.old (submitted_of seats s held) (fault.BusySnapshot page number) engine.new =
+    subst (λ (mid : EngineState). Refuses engine.opened mid (submitted_of seats s held) (fault.BusySnapshot page number) engine.new) (found.1.nobody b.alone) found.2 in
     let bars : conflict Concurrent transaction.reads transaction.snap world.history ≡ Some (page, number) =
     ap (λ (reads : List ℕ). conflict Concurrent reads transaction.snap world.history) same.reads
     ∙ ap (λ (n : ℕ). conflict Concurrent held.reads n world.history) same.snap
@@ -148,19 +158,19 @@ commit_open engine seats after world s held transaction (reply.Busy page number)
     )
 commit_open engine seats after world s held transaction reply.Disk b minds is same pin acts =
     let found = acts.0 in
-    absurd (b.quiet (subst (λ (mid : Seen). Rose mid.faults engine.new.faults) (found.1.nobody b.alone) found.2.1))
+    absurd (b.quiet (subst (λ (mid : EngineState). Rose mid.faults engine.new.faults) (found.1.nobody b.alone) found.2.1))
 commit_open engine seats after world s held transaction (reply.Stopped log at) b minds is same pin acts =
     let found = acts.0 in
     let stop = found.2.1 in
-    let none : found.0.stopped ≡ None = ap (λ (seen : Seen). seen.stopped) (found.1.nobody b.alone) ∙ b.stands.tells.running in
+    let none : found.0.stopped ≡ None = ap (λ (seen : EngineState). seen.stopped) (found.1.nobody b.alone) ∙ b.stands.tells.running in
     let some : found.0.stopped ≡ Some stop.0 = stop.1 in
     absurd cc
 commit_open engine seats after world s held transaction (reply.Size pages) b minds is same pin acts =
     let found = acts.0.1 in
     let sound : IsSoundTransaction engine.old.page_size held =
     subst (IsSoundState engine.old.page_size) is (sound_at engine.old.page_size seats s b.sound) in
-    let refuses : Refuses engine.old (submitted_of seats s held) (fault.SizeLimit pages acts.0.0) engine.new =
-    subst (λ (mid : Seen). Refuses mid (submitted_of seats s held) (fault.SizeLimit pages acts.0.0) engine.new) (found.1.nobody b.alone) found.2 in
+    let refuses : Refuses engine.opened engine.old (submitted_of seats s held) (fault.SizeLimit pages acts.0.0) engine.new =
+    subst (λ (mid : EngineState). Refuses engine.opened mid (submitted_of seats s held) (fault.SizeLimit pages acts.0.0) engine.new) (found.1.nobody b.alone) found.2 in
     elim minds [
       | inl none ↦
           absurd (not_over engine.old world.maps world.history (submitted_of seats s held).change b.stands.tells none refl refl sound.images refuses.3)

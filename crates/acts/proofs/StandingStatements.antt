@@ -1,5 +1,5 @@
 -- What BEGIN, READ, WRITE and ROLLBACK do over an engine is what they do to the world.
-use Rattle.std.proofs.Common.{◌≡◌, ◌∙◌, ℕ, Bool, cond, List, [], ◌∷◌, ◌++◌, length, replicate, refl, sym, ap, subst, inl, inr, arith, get_or, eq-eqb}
+use Rattle.std.proofs.Common.{◌≡◌, ◌∙◌, ℕ, Bool, true, false, cond, ◌&&◌, is_some, List, [], ◌∷◌, ◌++◌, length, replicate, refl, sym, ap, subst, inl, inr, arith, get_or, eq-eqb}
 use Rattle.std.specs.Prelude.{Option, Some, None, slice_index, unwrap_or, IfSome}
 use Rattle.std.proofs.lemmas.Bool.{ne_eqb}
 use Rattle.page_spec.specs.PageMap.{PageMap, page_at, page_size_of}
@@ -9,8 +9,11 @@ use Rattle.page_lines.specs.declared.lines.Told.TheVariants as reply
 use Rattle.engine_spec.specs.PageSet.{with_page}
 use Rattle.page_lines.specs.PageLines.{with_image, read_text, write_text}
 use Rattle.engine_spec.specs.Change.{image_of}
-use Rattle.engine_spec.specs.Logs.{one_more}
-use Rattle.engine_spec.specs.Seen.{Seen, with_reader}
+use Rattle.disk_face.specs.Faults.{one_more}
+use Rattle.engine_spec.specs.declared.pins.Lock.{Lock}
+use Rattle.engine_spec.specs.State.{EngineState}
+use Rattle.engine_spec.specs.TwoLogs.{change_readers}
+use Rattle.engine_spec.specs.Events.{with_readers}
 use Rattle.page_lines.specs.World.{World, SessionState, Outcome, changed_at, map_number, newest_map, step, begin_step, read_step, write_step, commit_step, rollback_step, commit, committed, moved, decided, change_of, submitted}
 use Rattle.page_lines.specs.World as run
 use Rattle.acts.specs.declared.seats.Seat.{Seat}
@@ -18,9 +21,17 @@ use Rattle.acts.specs.declared.seats.State.{State}
 use Rattle.acts.specs.declared.seats.State.TheVariants as seat
 use Rattle.acts.specs.declared.seats.Transaction.{Transaction}
 use Rattle.acts.specs.Pagers.{Between, BeginActs, ReadOpen, ReadActs, WriteActs, RollbackActs, state_of}
-use Rattle.acts.specs.InMemory.{PinStands, IsTransaction, Matches}
-use Rattle.acts.proofs.Telling.{extends_same, tells_as}
+use Rattle.acts.specs.Standing.{PinStands, IsTransaction, Matches}
+use Rattle.acts.proofs.Telling.{extends_same, tells_readers}
 use Rattle.acts.proofs.Standing.{Stands, Leads, move, turn, tells_same, rests, pin_stays, tells_quiet, never_fails, tells_ended}
+
+-- counting a reader leaves who may commit
+readers_alone : (old : EngineState) (change : ℕ → ℕ) (lock : Lock) → (with_readers change lock old).alone ≡ old.alone
+readers_alone old change lock = by_test (old.always_begins && is_some old.logs)
+  where
+    by_test : (test : Bool) → (cond test (record old { readers = change_readers change old.readers lock }) old).alone ≡ old.alone
+    by_test true = refl
+    by_test false = refl
 
 -- BEGIN
 pub begin_acts : (engine : Between) (seats after : List Seat) (world : World) (s : ℕ) (told : Told) (state : State) (session : SessionState)
@@ -32,18 +43,21 @@ begin_acts engine seats after world s told seat.Out run.Out b matches acts =
     let begins = found.2.1 in
     let tells = b.stands.tells in
     let old : found.0 ≡ engine.old = found.1.nobody b.alone in
-    let new : engine.new ≡ record engine.old { logs = with_reader engine.old.logs pin.lock } =
-    found.2.2.nobody b.alone ∙ begins.after_is ∙ ap (λ (seen : Seen). record seen { logs = with_reader seen.logs pin.lock }) old in
+    let begun : found.2.0 ≡ with_readers one_more pin.lock engine.old =
+    begins.after_is ∙ ap (with_readers one_more pin.lock) old in
+    let alone : found.2.0.alone ≡ true =
+    ap (λ (seen : EngineState). seen.alone) begun ∙ (readers_alone engine.old one_more pin.lock ∙ b.alone) in
+    let new : engine.new ≡ with_readers one_more pin.lock engine.old = found.2.2.nobody alone ∙ begun in
     let n : pin.n ≡ length world.history =
-    begins.n ∙ ap (λ (seen : Seen). length seen.history) old ∙ ap length tells.history_is in
+    begins.n ∙ ap (λ (seen : EngineState). length seen.history) old ∙ ap length tells.history_is in
     let newest : get_or world.maps pin.n [] ≡ newest_map world = ap (λ (k : ℕ). get_or world.maps k []) n in
     let size : pin.size ≡ length (get_or world.maps pin.n []) =
-    begins.size ∙ ap (λ (seen : Seen). seen.size) old ∙ tells.size ∙ sym tells.store.count ∙ ap length (sym newest) in
+    begins.size ∙ ap (λ (seen : EngineState). seen.size) old ∙ tells.size ∙ sym tells.store.count ∙ ap length (sym newest) in
     let map : engine.map_after pin ≡ Some (get_or world.maps pin.n []) =
-    found.2.3 ∙ ap (λ (seen : Seen). seen.newest) old ∙ tells.newest ∙ ap Some (sym newest) in (
+    found.2.3 ∙ ap (λ (seen : EngineState). seen.newest) old ∙ tells.newest ∙ ap Some (sym newest) in (
       acts.0,
       move engine seats after world (run.begin world s).world _ _ b acts.1.2
-          (tells_as engine.old engine.new world.maps world.history (with_reader engine.old.logs pin.lock) engine.old.faults new tells)
+          (tells_readers engine.old engine.new world.maps world.history one_more pin.lock new tells)
           (extends_same world.maps) (
             record { snap = sym n; reads = refl; changed = refl; said = refl; wrote = refl },
             record { n = omega (arith, n, tells.count); size = size; map = map },

@@ -1,5 +1,5 @@
 -- What an engine tells after its own calls, where it is alone.
-use Rattle.std.proofs.Common.{◌≡◌, ◌∙◌, ℕ, ◌+◌, ◌*◌, ◌^◌, ◌<◌, ◌≤◌, List, [], ◌∷◌, ◌++◌, length, map, refl, sym, ap, subst, inl, inr, arith, rules, get_or, length-append, eqb, eqb-true, true}
+use Rattle.std.proofs.Common.{◌≡◌, ◌∙◌, ℕ, ◌+◌, ◌*◌, ◌<◌, ◌≤◌, List, [], ◌∷◌, ◌++◌, length, map, refl, sym, ap, subst, inl, inr, arith, rules, get_or, length-append, eqb, eqb-true, true, false, Bool, cond, ◌&&◌, is_some}
 use Rattle.std.specs.Prelude.{Option, Some, None, Contains, All}
 use Rattle.std.specs.Option.{option_map}
 use Rattle.std.specs.List.{IsDistinct, list_any}
@@ -17,26 +17,42 @@ use Rattle.engine_spec.specs.declared.pins.Pin.{Pin}
 use Rattle.engine_spec.specs.declared.commits.PageImage.{PageImage}
 use Rattle.engine_spec.specs.Change.{Change, laid}
 use Rattle.engine_spec.specs.declared.commits.Commit.{Commit}
-use Rattle.engine_spec.specs.Logs.{LogState}
+use Rattle.engine_spec.specs.declared.pins.Lock.{Lock}
+use Rattle.engine_spec.specs.declared.pins.Readers.{Readers}
+use Rattle.engine_spec.specs.TwoLogs.{TwoLogs, change_readers}
+use Rattle.disk_face.specs.Steps.{History}
+use Rattle.page_spec.specs.Header.{database_limit}
 use Rattle.page_lines.specs.PageLines.{AreImages, IsPageStore}
-use Rattle.engine_spec.specs.Seen.{Seen, IsOver, pages_after, frames_after}
+use Rattle.engine_spec.specs.State.{EngineState}
+use Rattle.engine_spec.specs.Events.{IsOver, pages_after, frames_after, with_readers}
 use Rattle.engine_spec.proofs.Laying.{laid-page_size}
 use Rattle.page_lines.proofs.GoodLines.{lines_whole, laid-store}
 use Rattle.engine_spec.proofs.Laying.{legal_size}
-use Rattle.acts.specs.InMemory.{TellsOf, PinStands}
+use Rattle.acts.specs.Standing.{TellsOf, PinStands}
 
--- where nothing but the logs and the faults changed, all stays
-pub tells_as : (old new : Seen) (maps : List PageMap) (history : List Commit) (logs : Option LogState) (faults : ℕ)
-    → new ≡ record old { logs = logs; faults = faults } → TellsOf old maps history → TellsOf new maps history
-tells_as old new maps history logs faults is tells = record {
-  history_is = ap (λ (s : Seen). s.history) is ∙ tells.history_is;
-  newest = ap (λ (s : Seen). s.newest) is ∙ tells.newest;
+-- where nothing but the faults, the logs, their readers and the disk's past changed, all stays
+pub tells_as : (old new : EngineState) (maps : List PageMap) (history : List Commit) (faults : ℕ) (logs : Option TwoLogs) (readers : Readers)
+    (disk : Option History) → new ≡ record old { faults = faults; logs = logs; readers = readers; disk = disk }
+    → TellsOf old maps history → TellsOf new maps history
+tells_as old new maps history faults logs readers disk is tells = subst (λ (s : EngineState). TellsOf s maps history) (sym is) (record {
+  history_is = tells.history_is;
+  newest = tells.newest;
   store = tells.store;
-  size = ap (λ (s : Seen). s.size) is ∙ tells.size;
-  page_size = ap (λ (s : Seen). s.page_size) is ∙ tells.page_size;
-  running = ap (λ (s : Seen). s.stopped) is ∙ tells.running;
+  size = tells.size;
+  page_size = tells.page_size;
+  running = tells.running;
   count = tells.count;
-}
+})
+
+-- where the readers of the logs changed, if there are some, all stays
+pub tells_readers : (old new : EngineState) (maps : List PageMap) (history : List Commit) (change : ℕ → ℕ) (lock : Lock)
+    → new ≡ with_readers change lock old → TellsOf old maps history → TellsOf new maps history
+tells_readers old new maps history change lock is tells =
+    subst (λ (s : EngineState). TellsOf s maps history) (sym is) (by_test (old.always_begins && is_some old.logs))
+  where
+    by_test : (test : Bool) → TellsOf (cond test (record old { readers = change_readers change old.readers lock }) old) maps history
+    by_test true = tells_as old _ maps history old.faults old.logs (change_readers change old.readers lock) old.disk refl tells
+    by_test false = tells
 
 -- a count of no faults didn't rise
 pub never_rose : (before after : ℕ) → before ≡ 0 → after ≡ 0 → Rose before after → ⊥
@@ -82,12 +98,12 @@ laid_size pages change none images store =
     (omega arith) (omega arith) store.each
 
 -- once a change is committed, the engine tells of one map and one commit more
-pub tells_more : (old new : Seen) (maps : List PageMap) (history : List Commit) (change : Change) (commit : Commit)
-    → change.fresh ≡ [] → AreImages old.page_size change.changed
+pub tells_more : (old new : EngineState) (maps : List PageMap) (history : List Commit) (change : Change) (commit : Commit)
+    → change.fresh ≡ [] → change.tail ≡ false → AreImages old.page_size change.changed
     → new.history ≡ old.history ++ commit ∷ [] → new.newest ≡ option_map (λ (pages : PageMap). laid pages change) old.newest
     → new.size ≡ pages_after old change → new.page_size ≡ old.page_size → new.stopped ≡ old.stopped → TellsOf old maps history
     → TellsOf new (maps ++ laid (get_or maps (length history) []) change ∷ []) (history ++ commit ∷ [])
-tells_more old new maps history change commit fresh images is_history is_newest is_size is_page_size is_stopped tells =
+tells_more old new maps history change commit fresh tail images is_history is_newest is_size is_page_size is_stopped tells =
     let newest = get_or maps (length history) [] in
     let next = laid newest change in
     let there : get_or (maps ++ next ∷ []) (length (history ++ commit ∷ [])) [] ≡ next =
@@ -97,7 +113,7 @@ tells_more old new maps history change commit fresh images is_history is_newest 
     record {
       history_is = is_history ∙ ap (λ (commits : List Commit). commits ++ commit ∷ []) tells.history_is;
       newest = is_newest ∙ ap (option_map (λ (pages : PageMap). laid pages change)) tells.newest ∙ ap Some (sym there);
-      store = subst IsPageStore (sym there) (laid-store newest change fresh whole tells.store);
+      store = subst IsPageStore (sym there) (laid-store newest change fresh tail whole tells.store);
       size = omega (arith, is_size, tells.size, ap length fresh);
       page_size = is_page_size ∙ tells.page_size ∙ sym size ∙ ap page_size_of (sym there);
       running = is_stopped ∙ tells.running;
@@ -135,12 +151,12 @@ few_images s images are =
         omega arith
 
 -- where there are no logs, a change of page lines passes no limit
-pub not_over : (seen : Seen) (maps : List PageMap) (history : List Commit) (change : Change) → TellsOf seen maps history
+pub not_over : (seen : EngineState) (maps : List PageMap) (history : List Commit) (change : Change) → TellsOf seen maps history
     → seen.logs ≡ None → change.fresh ≡ [] → change.freed ≡ [] → AreImages seen.page_size change.changed → IsOver seen change → ⊥
 not_over seen maps history change tells no_logs fresh freed images over = elim over [
   | inl pages ↦
       (let count : pages_after seen change ≡ 16 = omega (arith, tells.size, ap length fresh) in
-      let many : 2 ^ 30 < 16 * seen.page_size = subst (λ (n : ℕ). 2 ^ 30 < n * seen.page_size) count pages in
+      let many : database_limit < 16 * seen.page_size = subst (λ (n : ℕ). database_limit < n * seen.page_size) count pages in
       let most : seen.page_size ≤ 65536 =
       subst (λ (s : ℕ). s ≤ 65536) (sym tells.page_size) (most_size (page_size_of (get_or maps (length history) [])) tells.store.size) in
       omega arith)

@@ -1,4 +1,4 @@
 pub mod Pagers
-pub mod InMemory
+pub mod Standing
 pub mod Turns
 pub mod Playing

@@ -6,6 +6,7 @@ use Rattle.engine_spec.specs.declared.pins.Pin.{Pin}
 use Rattle.engine_spec.specs.declared.pins.Ckpt.{Ckpt}
 use Rattle.engine_spec.specs.declared.pins.Ckpt.TheVariants as checkpoint
 use Rattle.engine_spec.specs.declared.commits.Mode.TheVariants.{Concurrent}
+use Rattle.engine_spec.specs.declared.commits.CommitFault.{CommitFault}
 use Rattle.engine_spec.specs.declared.commits.CommitFault.TheVariants as fault
 use Rattle.page_lines.specs.declared.lines.Act.{Act}
 use Rattle.page_lines.specs.declared.lines.Act.TheVariants as act
@@ -15,8 +16,13 @@ use Rattle.engine_spec.specs.declared.commits.Commit.{Commit}
 use Rattle.engine_spec.specs.PageSet.{with_page}
 use Rattle.page_lines.specs.PageLines.{Statement, statement_text, read_text, write_text, with_image, Fills, AreImages}
 use Rattle.engine_spec.specs.Change.{image_of}
-use Rattle.engine_spec.specs.Logs.{one_more, told_logs}
-use Rattle.engine_spec.specs.Seen.{Seen, Found, Later, Begins, Ends, Fails, OnlyFaults, Submitted, Accepts, Refuses, Checkpoints}
+use Rattle.disk_face.specs.Faults.{one_more}
+use Rattle.engine_spec.specs.TwoLogs.{told_logs}
+use Rattle.crash_spec.specs.Opening.{Opening}
+use Rattle.engine_spec.specs.State.{EngineState, Later, During}
+use Rattle.engine_spec.specs.Written.{Submitted}
+use Rattle.engine_spec.specs.Events.{Begins, Ends, FailsAlone, FailsInStep, AcceptsCommit, RefusesCommit, Checkpoints}
+use Rattle.page_face.specs.declared.engine_tells.EngineTells.{Ghosts}
 use Rattle.acts.specs.declared.seats.Seat.{Seat}
 use Rattle.acts.specs.declared.seats.State.{State}
 use Rattle.acts.specs.declared.seats.State.TheVariants.{Out, Open, Refused}
@@ -104,23 +110,36 @@ submitted_of seats session transaction = record {
   ordinal = begun_of seats session;
 }
 
--- What an engine is before and after an act: whether it is alone and a transaction may always begin, what it tells, and the map of a pin.
+-- What an engine is before and after an act: since which openings its disk holds what it holds, what it tells, and the map of a pin.
 pub record Between : Type 1 where
-  pub alone : Type 0
-  pub free : Type 0
-  pub old : Seen
-  pub new : Seen
+  pub opened : Opening → Type 0
+  pub old : EngineState
+  pub new : EngineState
   pub map_before : Pin → Option PageMap
   pub map_after : Pin → Option PageMap
+
+-- the same of an engine, by all that it tells
+abbrev pub between : {E M : Type 0} → Ghosts E M → E → E → Between
+between told old new = record {
+  opened = told.opened old;
+  old = told.state old;
+  new = told.state new;
+  map_before = told.map_at old;
+  map_after = told.map_at new;
+}
 
 -- nothing but the answer: neither the sessions nor the engine changed
 abbrev pub Same : Between → List Seat → List Seat → Told → Told → Type 0
 Same engine before after answer told = (told ≡ answer) × (after ≡ before) × (engine.new ≡ engine.old)
 
+-- A COMMIT of page lines is refused so. They make and free no page, so no page of the freelist is read that might break its form.
+abbrev pub Refuses : (Opening → Type 0) → EngineState → Submitted → CommitFault → EngineState → Type 0
+Refuses opened before asked why after = RefusesCommit opened (Unit {0}) before asked why after
+
 -- BEGIN
 abbrev pub BeginActs : Between → ℕ → List Seat → List Seat → Told → State → Type 0
 BeginActs engine session before after told Out = (told ≡ reply.Ok) × ((pin : Pin)
-    × Found engine.alone engine.free engine.old (λ mid. (begun : Seen) × Begins mid pin begun × Later engine.alone engine.free begun engine.new
+    × During engine.old (λ mid. (begun : EngineState) × Begins mid pin begun × Later begun engine.new
     × (engine.map_after pin ≡ mid.newest))
     × (after ≡ with_seat before (record {
       session = session;
@@ -133,11 +152,11 @@ BeginActs engine session before after told (Refused pin) = Same engine before af
 -- READ of a page of the transaction's snapshot, which may fail where the disk does
 abbrev pub FetchOpen : Between → ℕ → ℕ → List Seat → List Seat → Told → Transaction → Type 0
 FetchOpen engine session page before after told transaction =
-    ((told ≡ reply.Disk) × (after ≡ before) × Found engine.alone engine.free engine.old (λ mid. Fails mid engine.new))
+    ((told ≡ reply.Disk) × (after ≡ before) × During engine.old (λ mid. FailsAlone mid engine.new))
     ⊎ ((byte : ℕ) × (told ≡ reply.Byte byte)
     × IfSome (engine.map_before transaction.pin) (λ pages. byte ≡ slice_index (page_at pages page) 0)
     × (after ≡ with_state before session (Open (after_fetch transaction page)))
-    × Found engine.alone engine.free engine.old (λ mid. OnlyFaults mid engine.new))
+    × During engine.old (λ mid. engine.new ≡ mid))
 
 -- READ of a page that the transaction wrote itself, or of its snapshot
 abbrev pub ReadOpen : Between → ℕ → ℕ → List Seat → List Seat → Told → Transaction → Option (List ℕ) → Type 0
@@ -162,22 +181,22 @@ WriteActs engine session page byte before after told (Refused pin) = Same engine
 -- COMMIT of an open transaction, by its answer
 abbrev pub CommitOpen : Between → ℕ → List Seat → List Seat → Transaction → Told → Type 0
 CommitOpen engine session before after transaction (reply.Done receipt) =
-    Found engine.alone engine.free engine.old (λ mid. (done : Seen) × Accepts mid (submitted_of before session transaction) receipt done
+    During engine.old (λ mid. (done : EngineState) × AcceptsCommit engine.opened mid (submitted_of before session transaction) receipt done
     × Ends done transaction.pin engine.new)
     × (after ≡ with_state before session Out)
 CommitOpen engine session before after transaction (reply.Busy page number) =
-    Found engine.alone engine.free engine.old
-    (λ mid. Refuses mid (submitted_of before session transaction) (fault.BusySnapshot page number) engine.new)
+    During engine.old
+    (λ mid. Refuses engine.opened mid (submitted_of before session transaction) (fault.BusySnapshot page number) engine.new)
     × (after ≡ with_state before session (Refused transaction.pin))
 CommitOpen engine session before after transaction reply.Disk =
-    Found engine.alone engine.free engine.old (λ mid. Refuses mid (submitted_of before session transaction) fault.Disk engine.new)
+    During engine.old (λ mid. Refuses engine.opened mid (submitted_of before session transaction) fault.Disk engine.new)
     × (after ≡ before)
 CommitOpen engine session before after transaction (reply.Stopped log at) =
-    Found engine.alone engine.free engine.old (λ mid. Refuses mid (submitted_of before session transaction) (fault.Stopped log at) engine.new)
+    During engine.old (λ mid. Refuses engine.opened mid (submitted_of before session transaction) (fault.Stopped log at) engine.new)
     × (after ≡ before)
 CommitOpen engine session before after transaction (reply.Size pages) =
-    ((frames : ℕ) × Found engine.alone engine.free engine.old
-    (λ mid. Refuses mid (submitted_of before session transaction) (fault.SizeLimit pages frames) engine.new))
+    ((frames : ℕ) × During engine.old
+    (λ mid. Refuses engine.opened mid (submitted_of before session transaction) (fault.SizeLimit pages frames) engine.new))
     × (after ≡ before)
 CommitOpen engine session before after transaction reply.Ok = ⊥
 CommitOpen engine session before after transaction (reply.Byte byte) = ⊥
@@ -202,8 +221,8 @@ RollbackActs engine session before after told (Refused pin) = (told ≡ reply.Ok
 
 -- one step of a checkpoint, which may fail where the disk does
 abbrev pub StepActs : Between → Told → Type 0
-StepActs engine told = ((told ≡ reply.Disk) × Found engine.alone engine.free engine.old (λ mid. Fails mid engine.new))
-    ⊎ ((answer : Ckpt) × (told ≡ reply.Ckpt answer) × Found engine.alone engine.free engine.old (λ mid. Checkpoints mid answer engine.new))
+StepActs engine told = ((told ≡ reply.Disk) × During engine.old (λ mid. FailsInStep engine.opened mid engine.new))
+    ⊎ ((answer : Ckpt) × (told ≡ reply.Ckpt answer) × During engine.old (λ mid. Checkpoints engine.opened mid answer engine.new))
 
 -- a step that copied no page
 abbrev pub IsLast : Ckpt → Type 0
@@ -213,15 +232,15 @@ IsLast checkpoint.Idle = Unit {0}
 IsLast (checkpoint.Held count) = Unit {0}
 
 -- Steps of a checkpoint that each copied a page, from one moment to a later one, and then one that didn't, or that failed.
-abbrev pub Copies : Type 0 → Type 0 → List Ckpt → Seen → Told → Seen → Type 0
-Copies alone free [] old told new = ((told ≡ reply.Disk) × Found alone free old (λ mid. Fails mid new))
-    ⊎ ((answer : Ckpt) × IsLast answer × (told ≡ reply.Ckpt answer) × Found alone free old (λ mid. Checkpoints mid answer new))
-Copies alone free (answer ∷ answers) old told new = (copied : Seen) × (page : ℕ) × (answer ≡ checkpoint.Copied page)
-    × Found alone free old (λ mid. Checkpoints mid answer copied) × Copies alone free answers copied told new
+abbrev pub Copies : (Opening → Type 0) → List Ckpt → EngineState → Told → EngineState → Type 0
+Copies opened [] old told new = ((told ≡ reply.Disk) × During old (λ mid. FailsInStep opened mid new))
+    ⊎ ((answer : Ckpt) × IsLast answer × (told ≡ reply.Ckpt answer) × During old (λ mid. Checkpoints opened mid answer new))
+Copies opened (answer ∷ answers) old told new = (copied : EngineState) × (page : ℕ) × (answer ≡ checkpoint.Copied page)
+    × During old (λ mid. Checkpoints opened mid answer copied) × Copies opened answers copied told new
 
 -- Steps of a checkpoint one after another, until one copies no page.
 abbrev pub CopyActs : Between → Told → Type 0
-CopyActs engine told = (answers : List Ckpt) × Copies engine.alone engine.free answers engine.old told engine.new
+CopyActs engine told = (answers : List Ckpt) × Copies engine.opened answers engine.old told engine.new
 
 -- An act over an engine: what it is answered, and what becomes of the sessions and of the engine.
 abbrev pub Acts : Between → List Seat → Act → Told → List Seat → Type 0
@@ -234,12 +253,12 @@ Acts engine before (act.Rollback session) told after = RollbackActs engine sessi
 Acts engine before act.Step told after = StepActs engine told × (after ≡ before)
 Acts engine before act.Copy told after = CopyActs engine told × (after ≡ before)
 Acts engine before act.Logs told after = (after ≡ before)
-    × Found engine.alone engine.free engine.old (λ mid. (told ≡ reply.Logs (told_logs mid.logs)) × (engine.new ≡ mid))
+    × During engine.old (λ mid. (told ≡ reply.Logs (told_logs mid.logs mid.history)) × (engine.new ≡ mid))
 
 -- each of these pins is given back, one after another
-abbrev pub EndsAll : List Pin → Seen → Seen → Type 0
+abbrev pub EndsAll : List Pin → EngineState → EngineState → Type 0
 EndsAll [] old new = new ≡ old
-EndsAll (pin ∷ pins) old new = (mid : Seen) × Ends old pin mid × EndsAll pins mid new
+EndsAll (pin ∷ pins) old new = (mid : EngineState) × Ends old pin mid × EndsAll pins mid new
 
 -- the maps of the pins that stay through an act are as they were
 abbrev pub KeepsMaps : List Seat → (Pin → Option PageMap) → List Seat → (Pin → Option PageMap) → Type 0
@@ -248,17 +267,17 @@ KeepsMaps before maps after maps_then =
 
 -- A run of page lines, from these seats on, where each pin that holds has such a map: the acts are answered one after another, and
 -- then the pins of what is still open are given back.
-abbrev pub Plays : Type 0 → Type 0 → Seen → (Pin → Option PageMap) → List Seat → List Act → List Told → Seen → Type 0
-Plays alone free old maps seats [] [] new = EndsAll (pins_of seats) old new
-Plays alone free old maps seats (act ∷ acts) (answer ∷ answers) new =
-    (mid : Seen) × (maps_then : Pin → Option PageMap) × (seats_then : List Seat)
-    × Acts (record { alone = alone; free = free; old = old; new = mid; map_before = maps; map_after = maps_then }) seats act answer seats_then
-    × KeepsMaps seats maps seats_then maps_then × Plays alone free mid maps_then seats_then acts answers new
-Plays alone free old maps seats [] (answer ∷ answers) new = ⊥
-Plays alone free old maps seats (act ∷ acts) [] new = ⊥
+abbrev pub Plays : (Opening → Type 0) → EngineState → (Pin → Option PageMap) → List Seat → List Act → List Told → EngineState → Type 0
+Plays opened old maps seats [] [] new = EndsAll (pins_of seats) old new
+Plays opened old maps seats (act ∷ acts) (answer ∷ answers) new =
+    (mid : EngineState) × (maps_then : Pin → Option PageMap) × (seats_then : List Seat)
+    × Acts (record { opened = opened; old = old; new = mid; map_before = maps; map_after = maps_then }) seats act answer seats_then
+    × KeepsMaps seats maps seats_then maps_then × Plays opened mid maps_then seats_then acts answers new
+Plays opened old maps seats [] (answer ∷ answers) new = ⊥
+Plays opened old maps seats (act ∷ acts) [] new = ⊥
 
 -- The history, and which of it are the engine's own commits, grew at their ends alone, and the count of faults didn't fall.
-pub record Grew (old new : Seen) : Type 0 where
+pub record Grew (old new : EngineState) : Type 0 where
   pub more : List Commit
   pub history : new.history ≡ old.history ++ more
   pub more_own : List ℕ

@@ -6,13 +6,13 @@ use Rattle.page_lines.specs.declared.lines.Act.TheVariants as act
 use Rattle.page_lines.specs.declared.lines.Told.{Told}
 use Rattle.page_lines.specs.declared.lines.Told.TheVariants as reply
 use Rattle.page_lines.specs.PageLines.{IsPageStore}
-use Rattle.engine_spec.specs.Seen.{Seen}
+use Rattle.engine_spec.specs.State.{EngineState}
 use Rattle.page_lines.specs.World.{World, Out, newest_map}
 use Rattle.page_lines.specs.Alike.{AreAlike}
 
 -- An engine rests at a world: it has as many commits, its newest map and the world's are page stores with the same pages 2 to 16, no
 -- write of a log failed, and no session has begun a transaction. What the earlier commits and maps were doesn't matter.
-pub record RestsAt (seen : Seen) (world : World) : Type 0 where
+pub record RestsAt (seen : EngineState) (world : World) : Type 0 where
   pub commits : length seen.history ≡ length world.history
   pub count : length world.maps ≡ length world.history + 1
   pub pages : PageMap
@@ -27,7 +27,7 @@ pub record RestsAt (seen : Seen) (world : World) : Type 0 where
   pub none_begun : (session : ℕ) → world.begun session ≡ 0
 
 -- the engine keeps no logs
-abbrev pub IsWithoutLogs : Seen → Type 0
+abbrev pub IsWithoutLogs : EngineState → Type 0
 IsWithoutLogs seen = seen.logs ≡ None
 
 -- an act of a session, and not one that looks after the logs

@@ -1,5 +1,5 @@
 -- What an act on one seat asks, how it bears on the list of seats, and what it leaves of an engine.
-use Rattle.std.specs.Prelude.{◌≡◌, ℕ, ◌≤◌, List, ◌++◌, Contains, Option, All, Result, Ok, Err, alloc_error}
+use Rattle.std.specs.Prelude.{◌≡◌, ℕ, ◌≤◌, List, ◌++◌, Contains, All, Result, Ok, Err, alloc_error}
 use Rattle.std.specs.declared.alloc.AllocError.{AllocError}
 use Rattle.engine_spec.specs.declared.commits.CommitFault.{CommitFault}
 use Rattle.engine_spec.specs.declared.commits.CommitFault.TheVariants as fault
@@ -9,8 +9,11 @@ use Rattle.page_spec.specs.PageMap.{PageMap}
 use Rattle.engine_spec.specs.declared.pins.Pin.{Pin}
 use Rattle.page_lines.specs.declared.lines.Act.{Act}
 use Rattle.page_lines.specs.declared.lines.Act.TheVariants as act
-use Rattle.engine_spec.specs.Logs.{one_more}
-use Rattle.engine_spec.specs.Seen.{Seen, Found, Later, Begins}
+use Rattle.disk_face.specs.Faults.{one_more}
+use Rattle.crash_spec.specs.Opening.{Opening}
+use Rattle.engine_spec.specs.State.{EngineState, Later, During}
+use Rattle.engine_spec.specs.Events.{Begins}
+use Rattle.page_face.specs.declared.engine_tells.EngineTells.{Ghosts}
 use Rattle.page_face.specs.Pins.{IsLive}
 use Rattle.acts.specs.declared.seats.Seat.{Seat}
 use Rattle.acts.specs.declared.seats.State.{State}
@@ -39,18 +42,17 @@ abbrev pub AllLive : {E : Type 0} → (E → List Pin → Type 0) → E → List
 AllLive live engine pins = All (λ pin. IsLive live engine pin) pins
 
 -- What stays of an engine where, of the pins that hold in it, these became those.
-pub record Stays {E : Type 0} (seen : E → Seen) (live : E → List Pin → Type 0) (map_at : E → Pin → Option PageMap)
-    (begins : E → PageMap → Type 0) (free alone : E → Type 0) (loans : E → List ℕ) (old : E) (olds : List Pin) (new : E)
-    (news : List Pin) : Type 0 where
-  pub holds : (front back : List Pin) → live old (front ++ (olds ++ back)) → live new (front ++ (news ++ back))
-  pub maps : (front back : List Pin) (pin : Pin) → live old (front ++ (olds ++ back)) → Contains (front ++ (olds ++ back)) pin
-      → Contains (front ++ (news ++ back)) pin → map_at new pin ≡ map_at old pin
-  pub runs : (first : PageMap) → begins old first → begins new first
-  pub is_free : free old → free new
-  pub is_alone : alone old → alone new
-  pub references : loans new ≡ loans old
-  pub pages : (seen old).size ≤ (seen new).size
-  pub page_size : (seen new).page_size ≡ (seen old).page_size
+pub record SwapsPins {E M : Type 0} (told : Ghosts E M) (old : E) (olds : List Pin) (new : E) (news : List Pin) : Type 0 where
+  pub holds : (front back : List Pin) → told.live old (front ++ (olds ++ back)) → told.live new (front ++ (news ++ back))
+  pub maps : (front back : List Pin) (pin : Pin) → told.live old (front ++ (olds ++ back)) → Contains (front ++ (olds ++ back)) pin
+      → Contains (front ++ (news ++ back)) pin → told.map_at new pin ≡ told.map_at old pin
+  pub runs : (first : PageMap) → told.stands_from old first → told.stands_from new first
+  pub opened : (opening : Opening) → told.opened old opening → told.opened new opening
+  pub loans : told.loans new ≡ told.loans old
+  pub always_begins : (told.state new).always_begins ≡ (told.state old).always_begins
+  pub alone : (told.state new).alone ≡ (told.state old).alone
+  pub pages : (told.state old).size ≤ (told.state new).size
+  pub page_size : (told.state new).page_size ≡ (told.state old).page_size
 
 -- how a session stands after COMMIT of its transaction was refused, and what it is told
 abbrev pub IsRefused : CommitFault → Transaction → State → Result Told AllocError → Type 0
@@ -64,7 +66,7 @@ IsRefused (fault.Corrupt page) transaction new told = ⊥
 -- a session has begun a transaction, which changed nothing else of the engine that is told
 abbrev pub HasBegun : Between → Seat → Seat → Type 0
 HasBegun engine old new = (pin : Pin)
-    × Found engine.alone engine.free engine.old (λ mid. (begun : Seen) × Begins mid pin begun × Later engine.alone engine.free begun engine.new
+    × During engine.old (λ mid. (begun : EngineState) × Begins mid pin begun × Later begun engine.new
     × (engine.map_after pin ≡ mid.newest))
     × (new ≡ record { session = old.session; begun = one_more old.begun; state = Open (new_transaction pin) })
 

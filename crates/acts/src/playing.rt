@@ -1,9 +1,10 @@
 // Playing page lines.
-ghost use Rattle.std.specs.Prelude.{◌≡◌, ◌≤◌, ◌⊎◌, List, [], ◌++◌, Contains, IfOk};
+ghost use Rattle.std.specs.Prelude.{◌≡◌, ◌≤◌, ◌⊎◌, true, List, [], ◌++◌, Contains, IfOk};
 ghost use Rattle.disk_face.specs.Faults.{Rose};
 ghost use Rattle.page_spec.specs.PageMap.{PageMap};
 ghost use Rattle.engine_spec.specs.declared.pins.Pin.{Pin};
-ghost use Rattle.engine_spec.specs.Seen.{Seen};
+ghost use Rattle.engine_spec.specs.State.{EngineState};
+ghost use Rattle.page_face.specs.Calls.{KeepsOpenings, KeepsRuns};
 ghost use Rattle.page_lines.specs.Range.{AreInRange};
 ghost use Rattle.page_lines.specs.World.{World, answers_to};
 ghost use Rattle.acts.specs.Pagers.{pins_of, Plays, EndsAll, Grew};
@@ -25,30 +26,31 @@ pub fn play<E: Engine<Raw>>(
     engine: &mut E,
     acts: &[Act],
 ) -> Result<Vec<Told>, AllocError>
-    requires free { E.free engine.old }
-    requires pages { 16 ≤ (E.seen engine.old).size }
+    requires always { (E.state engine.old).always_begins ≡ true }
+    requires pages { 16 ≤ (E.state engine.old).size }
     requires range { AreInRange acts.now }
     requires live { E.live engine.old [] }
 
-    ensures plays { IfOk result (λ told. Plays (E.alone engine.old) (E.free engine.old) (E.seen engine.old) (E.map_at engine.old) [] acts.now
-        told.items (E.seen engine.new)) }
+    ensures plays { IfOk result (λ told. Plays (E.opened engine.old) (E.state engine.old) (E.map_at engine.old) [] acts.now
+        told.items (E.state engine.new)) }
 
     // Where nobody else commits and no fault was counted, the answers are those of the run over whole page maps. Where the engine
     // keeps logs, that is said of acts of sessions alone, as long as no limit is met.
-    ensures answers { E.alone engine.old → (world : World) → RestsAt (E.seen engine.old) world
-        → (Rose (E.seen engine.old).faults (E.seen engine.new).faults → ⊥)
-        → IfOk result (λ told. IsWithoutLogs (E.seen engine.old) ⊎ (AreSessions acts.now × HaveNoLimit told.items)
+    ensures answers { (E.state engine.old).alone ≡ true → (world : World) → RestsAt (E.state engine.old) world
+        → (Rose (E.state engine.old).faults (E.state engine.new).faults → ⊥)
+        → IfOk result (λ told. IsWithoutLogs (E.state engine.old) ⊎ (AreSessions acts.now × HaveNoLimit told.items)
         → told.items ≡ answers_to world acts.now) }
 
     // With or without memory.
-    ensures grew { Grew (E.seen engine.old) (E.seen engine.new) }
-    ensures free { E.free engine.new }
-    ensures pages { 16 ≤ (E.seen engine.new).size }
-    ensures page_size { (E.seen engine.new).page_size ≡ (E.seen engine.old).page_size }
+    ensures grew { Grew (E.state engine.old) (E.state engine.new) }
+    ensures always { (E.state engine.new).always_begins ≡ true }
+    ensures pages { 16 ≤ (E.state engine.new).size }
+    ensures page_size { (E.state engine.new).page_size ≡ (E.state engine.old).page_size }
     ensures live { (others : List Pin) → E.live engine.old others → E.live engine.new others }
     ensures maps { (others : List Pin) (pin : Pin) → E.live engine.old others → Contains others pin → E.map_at engine.new pin ≡ E.map_at engine.old pin }
-    ensures runs { (first : PageMap) → E.begins engine.old first → E.begins engine.new first }
-    ensures alone { E.alone engine.old → E.alone engine.new }
+    ensures runs { KeepsRuns E.EngineTells engine.old engine.new }
+    ensures alone { (E.state engine.new).alone ≡ (E.state engine.old).alone }
+    ensures opened { KeepsOpenings E.EngineTells engine.old engine.new }
     ensures loans { E.loans engine.new ≡ E.loans engine.old }
 {
     let mut pagers = Pagers::new(alloc);
@@ -64,21 +66,22 @@ fn play_on<E: Engine<Raw>>(
     pagers: &mut Pagers,
     acts: &[Act],
 ) -> Result<Vec<Told>, AllocError>
-    requires free { E.free engine.old }
-    requires pages { 16 ≤ (E.seen engine.old).size }
+    requires always { (E.state engine.old).always_begins ≡ true }
+    requires pages { 16 ≤ (E.state engine.old).size }
     requires range { AreInRange acts.now }
     requires live { E.live engine.old [] }
     requires none { pagers.old ≡ [] }
-    ensures plays { IfOk result (λ told. (new : Seen) → EndsAll (pins_of pagers.new) (E.seen engine.new) new
-        → Plays (E.alone engine.old) (E.free engine.old) (E.seen engine.old) (E.map_at engine.old) [] acts.now told.items new) }
-    ensures grew { Grew (E.seen engine.old) (E.seen engine.new) }
-    ensures free { E.free engine.new }
-    ensures pages { 16 ≤ (E.seen engine.new).size }
-    ensures page_size { (E.seen engine.new).page_size ≡ (E.seen engine.old).page_size }
+    ensures plays { IfOk result (λ told. (new : EngineState) → EndsAll (pins_of pagers.new) (E.state engine.new) new
+        → Plays (E.opened engine.old) (E.state engine.old) (E.map_at engine.old) [] acts.now told.items new) }
+    ensures grew { Grew (E.state engine.old) (E.state engine.new) }
+    ensures always { (E.state engine.new).always_begins ≡ true }
+    ensures pages { 16 ≤ (E.state engine.new).size }
+    ensures page_size { (E.state engine.new).page_size ≡ (E.state engine.old).page_size }
     ensures live { (others : List Pin) → E.live engine.old others → E.live engine.new (pins_of pagers.new ++ others) }
     ensures maps { (others : List Pin) (pin : Pin) → E.live engine.old others → Contains others pin → E.map_at engine.new pin ≡ E.map_at engine.old pin }
-    ensures runs { (first : PageMap) → E.begins engine.old first → E.begins engine.new first }
-    ensures alone { E.alone engine.old → E.alone engine.new }
+    ensures runs { KeepsRuns E.EngineTells engine.old engine.new }
+    ensures alone { (E.state engine.new).alone ≡ (E.state engine.old).alone }
+    ensures opened { KeepsOpenings E.EngineTells engine.old engine.new }
     ensures loans { E.loans engine.new ≡ E.loans engine.old }
 {
     let mut answers = Vec::new(alloc);

@@ -62,53 +62,55 @@ fn put_image(changed: &mut Items<PageImage>, page: u32, bytes: Bytes) -> Result<
     }
 }
 
-/// Notes a read of a page that the transaction wrote itself. The error is want of memory, and leaves it as it was.
-pub fn note_own(alloc: Global, transaction: &mut Transaction, page: u32) -> Result<(), AllocError>
-    ensures ok { OnOk result (transaction.new ≡ after_own transaction.old page) }
-    ensures err { OnErr result (transaction.new ≡ transaction.old) }
-{
-    let text = read_line(alloc, page)?;
-    transaction.said.push(text)
-}
+impl Transaction {
+    /// Notes a read of a page that the transaction wrote itself. The error is want of memory, and leaves it as it was.
+    pub fn note_own(&mut self, alloc: Global, page: u32) -> Result<(), AllocError>
+        ensures ok { OnOk result (self.new ≡ after_own self.old page) }
+        ensures err { OnErr result (self.new ≡ self.old) }
+    {
+        let text = read_line(alloc, page)?;
+        self.said.push(text)
+    }
 
-/// Notes a read of a page of the snapshot. The error is want of memory, and leaves the transaction as it was.
-pub fn note_fetch(alloc: Global, transaction: &mut Transaction, page: u32) -> Result<(), AllocError>
-    ensures ok { OnOk result (transaction.new ≡ after_fetch transaction.old page) }
-    ensures err { OnErr result (transaction.new ≡ transaction.old) }
-{
-    let text = read_line(alloc, page)?;
-    transaction.said.push(text)?;
-    match transaction.reads.add(page) {
-        Ok(()) => Ok(()),
-        Err(want) => {
-            let _ = transaction.said.pop();
-            Err(want)
+    /// Notes a read of a page of the snapshot. The error is want of memory, and leaves the transaction as it was.
+    pub fn note_fetch(&mut self, alloc: Global, page: u32) -> Result<(), AllocError>
+        ensures ok { OnOk result (self.new ≡ after_fetch self.old page) }
+        ensures err { OnErr result (self.new ≡ self.old) }
+    {
+        let text = read_line(alloc, page)?;
+        self.said.push(text)?;
+        match self.reads.add(page) {
+            Ok(()) => Ok(()),
+            Err(want) => {
+                let _ = self.said.pop();
+                Err(want)
+            }
         }
     }
-}
 
-/// Sets every byte of a page. The error is want of memory, and leaves the transaction as it was.
-pub fn note_write(
-    alloc: Global,
-    transaction: &mut Transaction,
-    page: u32,
-    byte: u8,
-    page_size: usize,
-) -> Result<(), AllocError>
-    ensures ok { OnOk result (transaction.new ≡ after_write page_size transaction.old page byte) }
-    ensures err { OnErr result (transaction.new ≡ transaction.old) }
-{
-    let text = write_line(alloc, page, byte)?;
-    let bytes = filled(alloc, page_size, byte)?;
-    transaction.said.push(text)?;
-    match put_image(&mut transaction.changed, page, bytes) {
-        Ok(()) => {
-            transaction.wrote = true;
-            Ok(())
-        }
-        Err(want) => {
-            let _ = transaction.said.pop();
-            Err(want)
+    /// Sets every byte of a page. The error is want of memory, and leaves the transaction as it was.
+    pub fn note_write(
+        &mut self,
+        alloc: Global,
+        page: u32,
+        byte: u8,
+        page_size: usize,
+    ) -> Result<(), AllocError>
+        ensures ok { OnOk result (self.new ≡ after_write page_size self.old page byte) }
+        ensures err { OnErr result (self.new ≡ self.old) }
+    {
+        let text = write_line(alloc, page, byte)?;
+        let bytes = filled(alloc, page_size, byte)?;
+        self.said.push(text)?;
+        match put_image(&mut self.changed, page, bytes) {
+            Ok(()) => {
+                self.wrote = true;
+                Ok(())
+            }
+            Err(want) => {
+                let _ = self.said.pop();
+                Err(want)
+            }
         }
     }
 }

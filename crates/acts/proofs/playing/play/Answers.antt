@@ -22,7 +22,7 @@ pub returns-clause-answers : goal.returns-clause-answers
 returns-clause-answers g c = λ here world rests quiet.
     IfOk-weaker c.play_on-answers.result _ _
     (λ told plays said.
-    rests_answered (g.E.Engine.alone c.args.engine.now) (g.E.Engine.free c.args.engine.now) (g.E.Engine.seen c.args.engine.now)
-    (g.E.Engine.map_at c.args.engine.now) c.args.acts.now told.items (g.E.Engine.seen c.end.new.engine) world here c.requires.range rests
-    quiet said (plays (g.E.Engine.seen c.end.new.engine) c.end.ensures.ends))
+    rests_answered (g.E.EngineTells.opened c.args.engine.now) (g.E.EngineTells.state c.args.engine.now)
+    (g.E.EngineTells.map_at c.args.engine.now) c.args.acts.now told.items (g.E.EngineTells.state c.end.new.engine) world here c.requires.range rests
+    quiet said (plays (g.E.EngineTells.state c.end.new.engine) c.end.ensures.ends))
     c.play_on-answers.ensures.plays

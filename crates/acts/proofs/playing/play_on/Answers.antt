@@ -5,27 +5,28 @@ use Rattle.page_lines.specs.declared.lines.Act.TheVariants.{Begin}
 use Rattle.page_lines.specs.declared.lines.Told.{Told}
 use Rattle.acts.specs.declared.seats.Seat.{Seat}
 use Rattle.acts.specs.Pagers.{AreSound, Plays, pins_of}
-use Rattle.acts.proofs.Growth.{acts_go, grew_equal, grew_faults, grew_on}
+use Rattle.acts.proofs.Growth.{acts_go, grew_equal, grew_still, grew_on}
 use Rattle.acts.proofs.Runs.{answers_on, keeps_next, maps_next, none_left, plays_next}
 use Rattle.acts.proofs.playing.play_on.Goals as goal
 
 pub loop-act-init : goal.loop-act-init
 loop-act-init g c = record {
   plays = λ told new rest.
-      subst (λ (list : List Told). Plays (g.E.Engine.alone c.args.engine.now) (g.E.Engine.free c.args.engine.now) (g.E.Engine.seen c.args.engine.now)
-      (g.E.Engine.map_at c.args.engine.now) [] c.args.acts.now (list ++ told) new) (sym c.new-answers.ensures.items)
-      (subst (λ (seats : List Seat). Plays (g.E.Engine.alone c.args.engine.now) (g.E.Engine.free c.args.engine.now) (g.E.Engine.seen c.args.engine.now)
-      (g.E.Engine.map_at c.args.engine.now) seats c.args.acts.now told new) c.requires.none rest);
-  grew = grew_equal (g.E.Engine.seen c.args.engine.now) (g.E.Engine.seen c.args.engine.now) refl;
-  is_free = c.requires.free;
+      subst (λ (list : List Told). Plays (g.E.EngineTells.opened c.args.engine.now) (g.E.EngineTells.state c.args.engine.now)
+      (g.E.EngineTells.map_at c.args.engine.now) [] c.args.acts.now (list ++ told) new) (sym c.new-answers.ensures.items)
+      (subst (λ (seats : List Seat). Plays (g.E.EngineTells.opened c.args.engine.now) (g.E.EngineTells.state c.args.engine.now)
+      (g.E.EngineTells.map_at c.args.engine.now) seats c.args.acts.now told new) c.requires.none rest);
+  grew = grew_equal (g.E.EngineTells.state c.args.engine.now) (g.E.EngineTells.state c.args.engine.now) refl;
+  always = c.requires.always;
   pages = c.requires.pages;
   page_size = refl;
-  sound = subst (λ (seats : List Seat). AreSound (g.E.Engine.seen c.args.engine.now).page_size seats) (sym c.requires.none)
+  sound = subst (λ (seats : List Seat). AreSound (g.E.EngineTells.state c.args.engine.now).page_size seats) (sym c.requires.none)
       (λ k d within. absurd (omega arith));
-  live = λ others lives. subst (λ (seats : List Seat). g.E.Engine.live c.args.engine.now (pins_of seats ++ others)) (sym c.requires.none) lives;
+  live = λ others lives. subst (λ (seats : List Seat). g.E.EngineTells.live c.args.engine.now (pins_of seats ++ others)) (sym c.requires.none) lives;
   maps = λ others pin lives there. refl;
   runs = λ first begun. begun;
-  is_alone = λ alone. alone;
+  alone = refl;
+  opened = λ one is. is;
   references = refl;
 }
 
@@ -36,56 +37,55 @@ loop-act-preserved g c =
     let within : c.loop-act.act-index < length c.args.acts.now = omega arith in
     record {
       plays = λ told new rest.
-          subst (λ (list : List Told). Plays (g.E.Engine.alone c.args.engine.now) (g.E.Engine.free c.args.engine.now) (g.E.Engine.seen c.args.engine.now)
-          (g.E.Engine.map_at c.args.engine.now) [] c.args.acts.now list new)
+          subst (λ (list : List Told). Plays (g.E.EngineTells.opened c.args.engine.now) (g.E.EngineTells.state c.args.engine.now)
+          (g.E.EngineTells.map_at c.args.engine.now) [] c.args.acts.now list new)
           (answers_on c.loop-act.answers.items c.push.new.self.items c.in_ok-act.field-0 told c.in_ok-push.ensures.items)
           (before.plays (c.in_ok-act.field-0 ∷ told) new
-          (plays_next (g.E.Engine.alone c.args.engine.now) (g.E.Engine.free c.args.engine.now)
-          (g.E.Engine.alone c.loop-act.engine) (g.E.Engine.free c.loop-act.engine)
-          (g.E.Engine.seen c.loop-act.engine) (g.E.Engine.seen c.act.new.engine) new (g.E.Engine.map_at c.loop-act.engine) (g.E.Engine.map_at c.act.new.engine)
+          (plays_next (g.E.EngineTells.opened c.args.engine.now) (g.E.EngineTells.opened c.loop-act.engine)
+          (g.E.EngineTells.state c.loop-act.engine) (g.E.EngineTells.state c.act.new.engine) new (g.E.EngineTells.map_at c.loop-act.engine) (g.E.EngineTells.map_at c.act.new.engine)
           c.loop-act.pagers c.act.new.self c.args.acts.now c.loop-act.act-index (get_or c.args.acts.now c.loop-act.act-index (Begin 0)) c.in_ok-act.field-0 told within
-          (get_or_default c.args.acts.now c.loop-act.act-index (Begin 0) (get_or c.args.acts.now c.loop-act.act-index (Begin 0)) within) before.is_alone
-          (λ free. before.is_free) acted.acts
-          (keeps_next g.E.Engine.live g.E.Engine.map_at c.loop-act.engine c.act.new.engine c.loop-act.pagers c.act.new.self
+          (get_or_default c.args.acts.now c.loop-act.act-index (Begin 0) (get_or c.args.acts.now c.loop-act.act-index (Begin 0)) within) before.opened acted.acts
+          (keeps_next g.E.EngineTells.live g.E.EngineTells.map_at c.loop-act.engine c.act.new.engine c.loop-act.pagers c.act.new.self
           (before.live [] c.requires.live) acted.maps) rest));
-      grew = grew_on _ _ _ before.grew (acts_go (g.E.Engine.alone c.loop-act.engine) (g.E.Engine.free c.loop-act.engine) (g.E.Engine.seen c.loop-act.engine)
-          (g.E.Engine.seen c.act.new.engine) (g.E.Engine.map_at c.loop-act.engine) (g.E.Engine.map_at c.act.new.engine) c.loop-act.pagers
+      grew = grew_on _ _ _ before.grew (acts_go (g.E.EngineTells.opened c.loop-act.engine) (g.E.EngineTells.state c.loop-act.engine)
+          (g.E.EngineTells.state c.act.new.engine) (g.E.EngineTells.map_at c.loop-act.engine) (g.E.EngineTells.map_at c.act.new.engine) c.loop-act.pagers
           (get_or c.args.acts.now c.loop-act.act-index (Begin 0)) c.in_ok-act.field-0 c.act.new.self acted.acts).grew;
-      is_free = acted.free;
+      always = acted.always;
       pages = acted.pages;
       page_size = acted.page_size ∙ before.page_size;
       sound = acted.sound;
       live = λ others lives. acted.live others (before.live others lives);
-      maps = maps_next g.E.Engine.live g.E.Engine.map_at c.args.engine.now c.loop-act.engine c.act.new.engine c.loop-act.pagers c.act.new.self
+      maps = maps_next g.E.EngineTells.live g.E.EngineTells.map_at c.args.engine.now c.loop-act.engine c.act.new.engine c.loop-act.pagers c.act.new.self
           before.live before.maps acted.maps;
       runs = λ first begun. acted.runs first (before.runs first begun);
-      is_alone = λ alone. acted.alone (before.is_alone alone);
+      alone = acted.alone ∙ before.alone;
+      opened = λ one is. acted.opened one (before.opened one is);
       references = acted.loans ∙ before.references;
     }
 
 pub returns-in_err-act-clause-grew : goal.returns-in_err-act-clause-grew
-returns-in_err-act-clause-grew g c = grew_on _ _ _ c.loop-act.invariant.grew (grew_faults _ _ _ _ c.in_err-act.ensures.wanting)
+returns-in_err-act-clause-grew g c = grew_on _ _ _ c.loop-act.invariant.grew (grew_still _ _ c.in_err-act.ensures.wanting)
 
 pub returns-in_err-act-clause-maps : goal.returns-in_err-act-clause-maps
 returns-in_err-act-clause-maps g c =
-    maps_next g.E.Engine.live g.E.Engine.map_at c.args.engine.now c.loop-act.engine c.act.new.engine c.loop-act.pagers c.act.new.self
+    maps_next g.E.EngineTells.live g.E.EngineTells.map_at c.args.engine.now c.loop-act.engine c.act.new.engine c.loop-act.pagers c.act.new.self
     c.loop-act.invariant.live c.loop-act.invariant.maps c.in_err-act.ensures.maps
 
 pub returns-in_err-push-clause-grew : goal.returns-in_err-push-clause-grew
-returns-in_err-push-clause-grew g c = grew_on _ _ _ c.loop-act.invariant.grew (acts_go (g.E.Engine.alone c.loop-act.engine) (g.E.Engine.free c.loop-act.engine) (g.E.Engine.seen c.loop-act.engine)
-    (g.E.Engine.seen c.act.new.engine) (g.E.Engine.map_at c.loop-act.engine) (g.E.Engine.map_at c.act.new.engine) c.loop-act.pagers
+returns-in_err-push-clause-grew g c = grew_on _ _ _ c.loop-act.invariant.grew (acts_go (g.E.EngineTells.opened c.loop-act.engine) (g.E.EngineTells.state c.loop-act.engine)
+    (g.E.EngineTells.state c.act.new.engine) (g.E.EngineTells.map_at c.loop-act.engine) (g.E.EngineTells.map_at c.act.new.engine) c.loop-act.pagers
     (get_or c.args.acts.now c.loop-act.act-index (Begin 0)) c.in_ok-act.field-0 c.act.new.self c.in_ok-act.ensures.acts).grew
 
 pub returns-in_err-push-clause-maps : goal.returns-in_err-push-clause-maps
 returns-in_err-push-clause-maps g c =
-    maps_next g.E.Engine.live g.E.Engine.map_at c.args.engine.now c.loop-act.engine c.act.new.engine c.loop-act.pagers c.act.new.self
+    maps_next g.E.EngineTells.live g.E.EngineTells.map_at c.args.engine.now c.loop-act.engine c.act.new.engine c.loop-act.pagers c.act.new.self
     c.loop-act.invariant.live c.loop-act.invariant.maps c.in_ok-act.ensures.maps
 
 pub returns-clause-plays : goal.returns-clause-plays
 returns-clause-plays g c = λ new ends.
-    subst (λ (list : List Told). Plays (g.E.Engine.alone c.args.engine.now) (g.E.Engine.free c.args.engine.now) (g.E.Engine.seen c.args.engine.now)
-    (g.E.Engine.map_at c.args.engine.now) [] c.args.acts.now list new) (append-nil c.loop-act.answers.items)
+    subst (λ (list : List Told). Plays (g.E.EngineTells.opened c.args.engine.now) (g.E.EngineTells.state c.args.engine.now)
+    (g.E.EngineTells.map_at c.args.engine.now) [] c.args.acts.now list new) (append-nil c.loop-act.answers.items)
     (c.loop-act.invariant.plays [] new
-    (subst (λ (left : List Act). Plays (g.E.Engine.alone c.args.engine.now) (g.E.Engine.free c.args.engine.now) (g.E.Engine.seen c.loop-act.engine)
-    (g.E.Engine.map_at c.loop-act.engine) c.loop-act.pagers left [] new)
+    (subst (λ (left : List Act). Plays (g.E.EngineTells.opened c.args.engine.now) (g.E.EngineTells.state c.loop-act.engine)
+    (g.E.EngineTells.map_at c.loop-act.engine) c.loop-act.pagers left [] new)
     (sym (none_left c.args.acts.now c.loop-act.act-index (omega arith))) ends))

@@ -1,22 +1,21 @@
 -- An engine under page lines, and the sessions over it, stand at a world: what they hold is what a run over whole page maps holds.
-use Rattle.std.specs.Prelude.{◌≡◌, ℕ, ◌+◌, ◌<◌, List, [], length, slice_get, Option, Some, None}
+use Rattle.std.specs.Prelude.{◌≡◌, ℕ, ◌+◌, ◌<◌, List, [], length, Option, Some, None}
 use Rattle.std.specs.List.{slice_index_or}
 use Rattle.page_spec.specs.PageMap.{PageMap, page_size_of}
 use Rattle.engine_spec.specs.declared.pins.Pin.{Pin}
 use Rattle.engine_spec.specs.declared.commits.Commit.{Commit}
 use Rattle.page_lines.specs.PageLines.{IsPageStore}
-use Rattle.engine_spec.specs.Seen.{Seen}
+use Rattle.engine_spec.specs.State.{EngineState}
 use Rattle.page_lines.specs.World.{World, SessionState}
 use Rattle.page_lines.specs.World as run
 use Rattle.acts.specs.declared.seats.Seat.{Seat}
 use Rattle.acts.specs.declared.seats.State.{State}
 use Rattle.acts.specs.declared.seats.State.TheVariants as seat
 use Rattle.acts.specs.declared.seats.Transaction.{Transaction}
-use Rattle.acts.specs.Pagers.{state_of, begun_of, pins_of, AreSound}
-use Rattle.memory_engine.specs.Plain.{PlainState, PlainLive, plain_seen}
+use Rattle.acts.specs.Pagers.{state_of, begun_of}
 
 -- The engine tells of the last of these maps, which is a page store, and of these commits. No write of a log failed.
-pub record TellsOf (seen : Seen) (maps : List PageMap) (history : List Commit) : Type 0 where
+pub record TellsOf (seen : EngineState) (maps : List PageMap) (history : List Commit) : Type 0 where
   pub history_is : seen.history ≡ history
   pub newest : seen.newest ≡ Some (slice_index_or maps (length history) [])
   pub store : IsPageStore (slice_index_or maps (length history) [])
@@ -52,18 +51,7 @@ Matches map_at maps (seat.Refused pin) run.Out = ⊥
 Matches map_at maps (seat.Refused pin) (run.Open transaction) = ⊥
 
 -- The engine tells of the world's maps and commits, and each session stands, and has begun as often, as the world says.
-pub record StandsAt (seen : Seen) (map_at : Pin → Option PageMap) (seats : List Seat) (world : World) : Type 0 where
+pub record StandsAt (seen : EngineState) (map_at : Pin → Option PageMap) (seats : List Seat) (world : World) : Type 0 where
   pub tells : TellsOf seen world.maps world.history
   pub sessions : (session : ℕ) → Matches map_at world.maps (state_of seats session) (world.sessions session)
   pub begun : (session : ℕ) → world.begun session ≡ begun_of seats session
-
--- what a store in memory holds: its engine, and the seats of its sessions
-pub record Memory : Type 0 where
-  pub plain : PlainState
-  pub seats : List Seat
-
--- The store in memory stands at the world, its sessions' transactions are sound, and their pins hold.
-pub record IsAt (memory : Memory) (world : World) : Type 0 where
-  pub stands : StandsAt (plain_seen memory.plain) (λ pin. slice_get memory.plain.maps pin.n) memory.seats world
-  pub sound : AreSound memory.plain.page_size memory.seats
-  pub live : PlainLive memory.plain (pins_of memory.seats)
