@@ -1,106 +1,32 @@
 -- How a run ends, from where it stands in its script.
-use Rattle.std.proofs.Common.{◌≡◌, ℕ, ◌+◌, true, false, cond, List, [], ◌∷◌, ◌++◌, length, length-append, take, Option, Some, None, IfSome, Contains, refl, sym, ap, ◌∙◌, subst, arith, inl, inr, ◌⊎◌}
+use Rattle.std.proofs.Common.{◌≡◌, ◌≢◌, ℕ, ◌+◌, true, false, cond, List, [], ◌∷◌, ◌++◌, length, length-append, take, Option, Some, None, IfSome, refl, sym, ap, ◌∙◌, subst, arith, inl, inr, ◌⊎◌}
 use Rattle.std.specs.List.{filter_map, cons_option, concat}
 use Rattle.std.proofs.lemmas.List.{take_at, append-nil}
 use Rattle.std.proofs.lemmas.List.Folds.{concat-append}
 use Rattle.std.proofs.lemmas.Option.{IfSome_then}
+use Rattle.disk_face.specs.Faults.{Rose}
 use Rattle.disk_face.specs.Sink.{Puts}
+use Rattle.disk_face.specs.declared.source.Source as sources
+use Rattle.disk_face.specs.declared.sink.Sink as sinks
 use Rattle.page_lines.specs.declared.lines.Act.{Act}
 use Rattle.page_lines.specs.Reply.{reply_text, session_of}
 use Rattle.page_lines.specs.World.{World, step, start, after}
-use Rattle.script.specs.declared.grammar.Act2.TheVariants as page
 use Rattle.script.specs.declared.grammar.Form.TheVariants.{Pages}
 use Rattle.script.specs.declared.grammar.Line.{Line}
-use Rattle.script.specs.declared.grammar.Line.TheVariants as line
-use Rattle.script.specs.Line.{Spells}
 use Rattle.script.specs.Reading.{line_of}
 use Rattle.script.specs.Raw.{HasNoEnd, raw_lines, is_within, text_of_raw}
 use Rattle.script.proofs.Lines.{concat-raw_lines}
+use Rattle.page_runs.specs.declared.status.Status.{Status}
+use Rattle.page_runs.specs.declared.status.Status.TheVariants as ended
 use Rattle.page_runs.specs.declared.lines.Next.{Next}
 use Rattle.page_runs.specs.declared.lines.Next.TheVariants as next
-use Rattle.acts.specs.InMemory.{Memory, IsAt}
-use Rattle.page_lines.specs.Range.{IsInRange}
+use Rattle.page_runs.specs.InMemory.{Memory, IsAt}
 use Rattle.page_runs.specs.Reading.{Reading, script_left, WhereTold, Advances}
-use Rattle.page_runs.specs.Outcome.{act_in, acts_in, replies, line_in, lines_run, is_refused, refused_text, text_of, status_of, source_failed, cut_text, PutsFront, IsCut, Ran}
+use Rattle.page_runs.specs.Outcome.{act_in, acts_in, replies, line_in, lines_run, is_refused, refused_text, text_of, source_failed, cut_text, PutsFront, IsCut, Ran, RunEnds, SaysLast}
+use Rattle.page_runs.specs.Status.{code_of, Blames}
 use Rattle.page_runs.proofs.Written.{Puts-more}
-use Rattle.page_runs.proofs.Fronts.{PutsFront-after}
+use Rattle.page_runs.proofs.Fronts.{PutsFront-after, Puts-nothing}
 use Rattle.page_runs.proofs.Standing.{Standing, Standing-start, Standing-more, told_then, left_after, nothing_left, lines-stop, refused-stop, lines-more, text-front, replies-more}
-
--- each of the statuses of a run
-abbrev statuses : List ℕ
-statuses = 0 ∷ 1 ∷ 3 ∷ 4 ∷ 7 ∷ []
-
-pub status_4 : Contains statuses 4
-status_4 = (3, omega arith, refl)
-
-pub status_7 : Contains statuses 7
-status_7 = (4, omega arith, refl)
-
-pub status_said : (status : ℕ) (P Q : Type 0) → ((status ≡ 1) × P) ⊎ (((status ≡ 4) ⊎ (status ≡ 7)) × Q) → Contains statuses status
-status_said status P Q (inl one) = subst (Contains statuses) (sym one.0) (1, omega arith, refl)
-status_said status P Q (inr other) = elim other.0 [
-  | inl four ↦ subst (Contains statuses) (sym four) status_4
-  | inr seven ↦ subst (Contains statuses) (sym seven) status_7
-]
-
-pub status_cut : (status : ℕ) (P Q : Type 0) → ((status ≡ 3) × P) ⊎ ((status ≡ 4) × Q) → Contains statuses status
-status_cut status P Q (inl three) = subst (Contains statuses) (sym three.0) (2, omega arith, refl)
-status_cut status P Q (inr four) = subst (Contains statuses) (sym four.0) status_4
-
--- what each status says
-pub Ran_0 : (script : List ℕ) (left before now : Option (List ℕ)) → status_of script ≡ 0 → left ≡ Some [] → Puts before (text_of script) now → Ran script 0 left before now
-Ran_0 script left before now status none text = record {
-  ended = λ e. (status, none, text);
-  line_refused = λ e. absurd (omega (arith, e));
-  source_failed = λ e. absurd (omega (arith, e));
-  sink_failed = λ e. absurd (omega (arith, e));
-  no_memory = λ e. absurd (omega (arith, e));
-}
-
-pub Ran_1 : (script : List ℕ) (left before now : Option (List ℕ)) → status_of script ≡ 1 → Puts before (text_of script) now → Ran script 1 left before now
-Ran_1 script left before now status text = record {
-  ended = λ e. absurd (omega (arith, e));
-  line_refused = λ e. (status, text);
-  source_failed = λ e. absurd (omega (arith, e));
-  sink_failed = λ e. absurd (omega (arith, e));
-  no_memory = λ e. absurd (omega (arith, e));
-}
-
-pub Ran_3 : (script : List ℕ) (left before now : Option (List ℕ)) (count : ℕ) → IsCut script count left → Puts before (cut_text script count) now → Ran script 3 left before now
-Ran_3 script left before now count cut text = record {
-  ended = λ e. absurd (omega (arith, e));
-  line_refused = λ e. absurd (omega (arith, e));
-  source_failed = λ e. (count, cut, text);
-  sink_failed = λ e. absurd (omega (arith, e));
-  no_memory = λ e. absurd (omega (arith, e));
-}
-
-pub Ran_4 : (script : List ℕ) (left before now : Option (List ℕ)) → PutsFront before (text_of script) now → Ran script 4 left before now
-Ran_4 script left before now front = record {
-  ended = λ e. absurd (omega (arith, e));
-  line_refused = λ e. absurd (omega (arith, e));
-  source_failed = λ e. absurd (omega (arith, e));
-  sink_failed = λ e. inl front;
-  no_memory = λ e. absurd (omega (arith, e));
-}
-
-pub Ran_4_cut : (script : List ℕ) (left before now : Option (List ℕ)) (count : ℕ) → IsCut script count left → PutsFront before (cut_text script count) now → Ran script 4 left before now
-Ran_4_cut script left before now count cut front = record {
-  ended = λ e. absurd (omega (arith, e));
-  line_refused = λ e. absurd (omega (arith, e));
-  source_failed = λ e. absurd (omega (arith, e));
-  sink_failed = λ e. inr (count, cut, front);
-  no_memory = λ e. absurd (omega (arith, e));
-}
-
-pub Ran_7 : (script : List ℕ) (left before now : Option (List ℕ)) → PutsFront before (text_of script) now → Ran script 7 left before now
-Ran_7 script left before now front = record {
-  ended = λ e. absurd (omega (arith, e));
-  line_refused = λ e. absurd (omega (arith, e));
-  source_failed = λ e. absurd (omega (arith, e));
-  sink_failed = λ e. absurd (omega (arith, e));
-  no_memory = λ e. front;
-}
 
 -- a run that has begun
 pub started : (left before : Option (List ℕ)) (lines : Reading) (memory : Memory) → lines.pending ≡ [] → lines.passed ≡ 0 → IsAt memory start → IfSome left (λ script. Standing script 1 lines.passed (script_left lines left) before before memory)
@@ -114,9 +40,9 @@ unfolding raw_lines
 no_lines = refl
 
 -- the script is at its end
-pub ended : (from left left' before now : Option (List ℕ)) (number : ℕ) (old new : Reading) (memory : Memory) → IfSome from (λ script. Standing script number old.passed (script_left old left) before now memory) → WhereTold (script_left old left) (script_left new left') (Advances next.End old new) → IfSome from (λ script. Ran script 0 left' before now)
-ended None left left' before now number old new memory s onward = tt
-ended (Some script) left left' before now number old new memory s onward =
+pub at_end : (from left left' before now : Option (List ℕ)) (number : ℕ) (old new : Reading) (memory : Memory) → IfSome from (λ script. Standing script number old.passed (script_left old left) before now memory) → WhereTold (script_left old left) (script_left new left') (Advances next.End old new) → IfSome from (λ script. Ran script ended.Done left' before now)
+at_end None left left' before now number old new memory s onward = tt
+at_end (Some script) left left' before now number old new memory s onward =
     let later = told_then (script_left old left) (script_left new left') s.rest (Advances next.End old new) s.told onward in
     let raws = raw_lines script in
     let none : raw_lines s.rest ≡ [] = ap raw_lines later.2.0 ∙ no_lines in
@@ -125,10 +51,16 @@ ended (Some script) left left' before now number old new memory s onward =
     let text : text_of script ≡ replies start (filter_map act_in s.ran) =
     ap (λ b. replies start (filter_map act_in (lines_run 0 raws)) ++ cond b (refused_text (1 + length (lines_run 0 raws))) []) taken
     ∙ (append-nil (replies start (filter_map act_in (lines_run 0 raws))) ∙ ap (λ x. replies start (filter_map act_in x)) all) in
-    Ran_0 script left' before now (ap (λ b. cond b 1 0) taken) (nothing_left new.pending left' (later.1 ∙ ap Some later.2.1)) (subst (λ x. Puts before x now) (sym text) s.written)
+    (ap (λ b. cond b ended.ScriptRefused ended.Done) taken, nothing_left new.pending left' (later.1 ∙ ap Some later.2.1), subst (λ x. Puts before x now) (sym text) s.written)
+
+-- the last line of a run that refused this line was written, or a front of it
+abbrev pub SaidRefused : ℕ → Status → Option (List ℕ) → Option (List ℕ) → Type 0
+SaidRefused number status mid now =
+    ((status ≡ ended.ScriptRefused) × Puts mid (refused_text number) now)
+    ⊎ (((status ≡ ended.SinkFailed) ⊎ (status ≡ ended.NoMemory)) × PutsFront mid (refused_text number) now)
 
 -- the next line is refused
-pub refused_there : (script : List ℕ) (number passed status : ℕ) (left left' before mid now : Option (List ℕ)) (memory : Memory) (raw : List ℕ) (raws : List (List ℕ)) (s : Standing script number passed left before mid memory) → raw_lines s.rest ≡ raw ∷ raws → line_in passed raw ≡ None → ((status ≡ 1) × Puts mid (refused_text number) now) ⊎ (((status ≡ 4) ⊎ (status ≡ 7)) × PutsFront mid (refused_text number) now) → Ran script status left' before now
+pub refused_there : (script : List ℕ) (number passed : ℕ) (status : Status) (left left' before mid now : Option (List ℕ)) (memory : Memory) (raw : List ℕ) (raws : List (List ℕ)) (s : Standing script number passed left before mid memory) → raw_lines s.rest ≡ raw ∷ raws → line_in passed raw ≡ None → SaidRefused number status mid now → Ran script status left' before now
 refused_there script number passed status left left' before mid now memory raw raws s first none said =
     let done = replies start (filter_map act_in s.ran) in
     let all : lines_run 0 (raw_lines script) ≡ s.ran =
@@ -138,20 +70,21 @@ refused_there script number passed status left left' before mid now memory raw r
     ap (λ b. replies start (filter_map act_in (lines_run 0 (raw_lines script))) ++ cond b (refused_text (1 + length (lines_run 0 (raw_lines script)))) []) stops
     ∙ (ap (λ x. replies start (filter_map act_in x) ++ refused_text (1 + length x)) all ∙ ap (λ n. done ++ refused_text n) (sym s.count)) in
     elim said [
-      | inl one ↦ subst (λ n. Ran script n left' before now) (sym one.0)
-          (Ran_1 script left' before now (ap (λ b. cond b 1 0) stops)
-          (subst (λ x. Puts before x now) (sym text) (Puts-more before mid now done (refused_text number) s.written one.1)))
+      | inl one ↦ subst (λ n. Ran script n left' before now) (sym one.0) (
+        ap (λ b. cond b ended.ScriptRefused ended.Done) stops,
+        subst (λ x. Puts before x now) (sym text) (Puts-more before mid now done (refused_text number) s.written one.1),
+      )
       | inr other ↦
           let front : PutsFront before (text_of script) now =
           PutsFront-after before mid now done (refused_text number) [] (text_of script) s.written other.1 (append-nil (done ++ refused_text number) ∙ sym text) in
           elim other.0 [
-            | inl four ↦ subst (λ n. Ran script n left' before now) (sym four) (Ran_4 script left' before now front)
-            | inr seven ↦ subst (λ n. Ran script n left' before now) (sym seven) (Ran_7 script left' before now front)
+            | inl four ↦ subst (λ n. Ran script n left' before now) (sym four) (inl front)
+            | inr seven ↦ subst (λ n. Ran script n left' before now) (sym seven) front
           ]
     ]
 
 -- a line past a limit
-pub past_limit : (from left left' before mid now : Option (List ℕ)) (number status : ℕ) (old new : Reading) (memory : Memory) → IfSome from (λ script. Standing script number old.passed (script_left old left) before mid memory) → WhereTold (script_left old left) (script_left new left') (Advances next.Refused old new) → ((status ≡ 1) × Puts mid (refused_text number) now) ⊎ (((status ≡ 4) ⊎ (status ≡ 7)) × PutsFront mid (refused_text number) now) → IfSome from (λ script. Ran script status left' before now)
+pub past_limit : (from left left' before mid now : Option (List ℕ)) (number : ℕ) (status : Status) (old new : Reading) (memory : Memory) → IfSome from (λ script. Standing script number old.passed (script_left old left) before mid memory) → WhereTold (script_left old left) (script_left new left') (Advances next.Refused old new) → SaidRefused number status mid now → IfSome from (λ script. Ran script status left' before now)
 past_limit None left left' before mid now number status old new memory s onward said = tt
 past_limit (Some script) left left' before mid now number status old new memory s onward said =
     let later = told_then (script_left old left) (script_left new left') s.rest (Advances next.Refused old new) s.told onward in
@@ -165,7 +98,7 @@ read_as passed raw given text said same cut meaning within =
     ap (λ b. cond b (line_of Pages (text_of_raw raw)) None) within ∙ sym (meaning ∙ ap (line_of Pages) (cut ∙ ap text_of_raw same))
 
 -- a line that isn't in the grammar
-pub not_in_grammar : (from left left' before mid now : Option (List ℕ)) (number status : ℕ) (old new : Reading) (memory : Memory) (given text : List ℕ) → IfSome from (λ script. Standing script number old.passed (script_left old left) before mid memory) → WhereTold (script_left old left) (script_left new left') (Advances next.Line old new) → given ≡ new.line → text ≡ text_of_raw given → None ≡ line_of Pages text → ((status ≡ 1) × Puts mid (refused_text number) now) ⊎ (((status ≡ 4) ⊎ (status ≡ 7)) × PutsFront mid (refused_text number) now) → IfSome from (λ script. Ran script status left' before now)
+pub not_in_grammar : (from left left' before mid now : Option (List ℕ)) (number : ℕ) (status : Status) (old new : Reading) (memory : Memory) (given text : List ℕ) → IfSome from (λ script. Standing script number old.passed (script_left old left) before mid memory) → WhereTold (script_left old left) (script_left new left') (Advances next.Line old new) → given ≡ new.line → text ≡ text_of_raw given → None ≡ line_of Pages text → SaidRefused number status mid now → IfSome from (λ script. Ran script status left' before now)
 not_in_grammar None left left' before mid now number status old new memory given text s onward same cut meaning said = tt
 not_in_grammar (Some script) left left' before mid now number status old new memory given text s onward same cut meaning said =
     let later = told_then (script_left old left) (script_left new left') s.rest (Advances next.Line old new) s.told onward in
@@ -182,7 +115,7 @@ script_cut script number passed left before now memory s =
     ∙ (ap (λ x. concat s.raws ++ x) (concat-raw_lines s.rest) ∙ ap (λ x. concat x ++ s.rest) (sym first))))
 
 -- the source failed
-pub cut_there : (from left left' before mid now : Option (List ℕ)) (number status : ℕ) (old new : Reading) (memory : Memory) → IfSome from (λ script. Standing script number old.passed (script_left old left) before mid memory) → script_left new left' ≡ script_left old left → HasNoEnd new.pending → ((status ≡ 3) × Puts mid source_failed now) ⊎ ((status ≡ 4) × PutsFront mid source_failed now) → IfSome from (λ script. Ran script status left' before now)
+pub cut_there : (from left left' before mid now : Option (List ℕ)) (number : ℕ) (status : Status) (old new : Reading) (memory : Memory) → IfSome from (λ script. Standing script number old.passed (script_left old left) before mid memory) → script_left new left' ≡ script_left old left → HasNoEnd new.pending → ((status ≡ ended.SourceFailed) × Puts mid source_failed now) ⊎ ((status ≡ ended.SinkFailed) × PutsFront mid source_failed now) → IfSome from (λ script. Ran script status left' before now)
 cut_there None left left' before mid now number status old new memory s same unended said = tt
 cut_there (Some script) left left' before mid now number status old new memory s same unended said =
     let done = replies start (filter_map act_in s.ran) in
@@ -199,10 +132,9 @@ cut_there (Some script) left left' before mid now number status old new memory s
     let text : cut_text script count ≡ done ++ source_failed = ap (λ x. replies start (filter_map act_in x) ++ source_failed) first in
     elim said [
       | inl three ↦ subst (λ n. Ran script n left' before now) (sym three.0)
-          (Ran_3 script left' before now count cut (subst (λ x. Puts before x now) (sym text) (Puts-more before mid now done source_failed s.written three.1)))
+          (count, cut, subst (λ x. Puts before x now) (sym text) (Puts-more before mid now done source_failed s.written three.1))
       | inr four ↦ subst (λ n. Ran script n left' before now) (sym four.0)
-          (Ran_4_cut script left' before now count cut
-          (PutsFront-after before mid now done source_failed [] (cut_text script count) s.written four.1 (append-nil (done ++ source_failed) ∙ sym text)))
+          (inr (count, cut, PutsFront-after before mid now done source_failed [] (cut_text script count) s.written four.1 (append-nil (done ++ source_failed) ∙ sym text)))
     ]
 
 -- a front of the reply to the next line was written
@@ -234,3 +166,56 @@ as_next now it e a b old new h = subst (λ n. WhereTold a b (Advances n old new)
 pub replies_one : (world : World) (said : Line) (asked : Act) → Some asked ≡ act_in said → reply_text (session_of asked) (step world asked).told ≡ replies world (acts_in said)
 replies_one world said asked e =
     sym (append-nil (reply_text (session_of asked) (step world asked).told)) ∙ ap (λ o. replies world (cons_option o [])) e
+
+-- a last line that refuses a line of the script
+abbrev pub SaysRefused : {K : Type 0} → sinks.Ghosts K → ℕ → Status → K → K → Type 0
+SaysRefused sink number status out out' =
+    SaysLast sink (refused_text number) ended.ScriptRefused status out out' ⊎ ((status ≡ ended.NoMemory) × (out' ≡ out))
+
+pub said_refused : {K : Type 0} (sink : sinks.Ghosts K) (number : ℕ) (status : Status) (out out' : K) → SaysRefused sink number status out out' → SaidRefused number status (sink.written out) (sink.written out')
+said_refused sink number status out out' (inl (inl one)) = inl (one.0, one.1)
+said_refused sink number status out out' (inl (inr four)) = inr (inl four.0, four.1)
+said_refused sink number status out out' (inr seven) =
+    inr (inr seven.0, (0, subst (λ k. Puts (sink.written out) [] (sink.written k)) (sym seven.1) (Puts-nothing (sink.written out))))
+
+pub said_cut : {K : Type 0} (sink : sinks.Ghosts K) (status : Status) (out out' : K) → SaysLast sink source_failed ended.SourceFailed status out out' → ((status ≡ ended.SourceFailed) × Puts (sink.written out) source_failed (sink.written out')) ⊎ ((status ≡ ended.SinkFailed) × PutsFront (sink.written out) source_failed (sink.written out'))
+said_cut sink status out out' (inl three) = inl (three.0, three.1)
+said_cut sink status out out' (inr four) = inr (four.0, four.1)
+
+-- a status whose number isn't that of refused words isn't that status
+pub no_words : (status : Status) → (code_of status ≡ 2 → ⊥) → status ≢ ended.WordsRefused
+no_words status other is = other (ap code_of is)
+
+-- how a run ends whose line was refused
+pub ends_refused : {S K : Type 0} (source : sources.Ghosts S) (sink : sinks.Ghosts K) (number : ℕ) (status : Status) (src src' : S) (out mid out' : K) → source.faults src' ≡ source.faults src → sink.faults mid ≡ sink.faults out → SaysRefused sink number status mid out' → IfSome (source.left src) (λ script. Ran script status (source.left src') (sink.written out) (sink.written out')) → RunEnds source sink status src out src' out'
+ends_refused source sink number status src src' out mid out' same none (inl (inl one)) ran = record {
+  words = no_words status (λ e. omega (arith, sym (ap code_of one.0) ∙ e));
+  script = ran;
+  faults = subst (λ n. Blames n (source.faults src) (source.faults src') (sink.faults out) (sink.faults out')) (sym one.0) (same, one.2 ∙ none);
+}
+ends_refused source sink number status src src' out mid out' same none (inl (inr four)) ran = record {
+  words = no_words status (λ e. omega (arith, sym (ap code_of four.0) ∙ e));
+  script = ran;
+  faults = subst (λ n. Blames n (source.faults src) (source.faults src') (sink.faults out) (sink.faults out')) (sym four.0)
+      (inl same, subst (λ n. Rose n (sink.faults out')) none four.2);
+}
+ends_refused source sink number status src src' out mid out' same none (inr seven) ran = record {
+  words = no_words status (λ e. omega (arith, sym (ap code_of seven.0) ∙ e));
+  script = ran;
+  faults = subst (λ n. Blames n (source.faults src) (source.faults src') (sink.faults out) (sink.faults out')) (sym seven.0)
+      (same, ap sink.faults seven.1 ∙ none);
+}
+
+-- how a run ends whose source failed
+pub ends_cut : {S K : Type 0} (source : sources.Ghosts S) (sink : sinks.Ghosts K) (status : Status) (src src' : S) (out mid out' : K) → Rose (source.faults src) (source.faults src') → sink.faults mid ≡ sink.faults out → SaysLast sink source_failed ended.SourceFailed status mid out' → IfSome (source.left src) (λ script. Ran script status (source.left src') (sink.written out) (sink.written out')) → RunEnds source sink status src out src' out'
+ends_cut source sink status src src' out mid out' rose none (inl three) ran = record {
+  words = no_words status (λ e. omega (arith, sym (ap code_of three.0) ∙ e));
+  script = ran;
+  faults = subst (λ n. Blames n (source.faults src) (source.faults src') (sink.faults out) (sink.faults out')) (sym three.0) (rose, three.2 ∙ none);
+}
+ends_cut source sink status src src' out mid out' rose none (inr four) ran = record {
+  words = no_words status (λ e. omega (arith, sym (ap code_of four.0) ∙ e));
+  script = ran;
+  faults = subst (λ n. Blames n (source.faults src) (source.faults src') (sink.faults out) (sink.faults out')) (sym four.0)
+      (inr rose, subst (λ n. Rose n (sink.faults out')) none four.2);
+}

@@ -1,5 +1,5 @@
 -- Fronts of a text that were put into a sink.
-use Rattle.std.proofs.Common.{◌≡◌, ℕ, ◌≤◌, List, [], ◌++◌, length, take, drop, Option, Some, None, refl, sym, ap, ◌∙◌, subst, arith, append_assoc, inl, inr}
+use Rattle.std.proofs.Common.{◌≡◌, ℕ, ◌≤◌, List, [], ◌++◌, length, take, drop, Option, Some, None, IfSome, refl, sym, ap, ◌∙◌, subst, arith, append_assoc, inl, inr}
 use Rattle.std.proofs.lemmas.List.{take_at, take-append-drop, append-nil}
 use Rattle.disk_face.specs.Faults.{Rose}
 use Rattle.disk_face.specs.Sink.{Puts}
@@ -30,3 +30,8 @@ Rose-later a b c h rose = record {
   later = omega (arith, h, rose.later);
   counted = elim rose.counted [ inl less ↦ inl (omega (arith, h, less)) | inr last ↦ inr last ];
 }
+
+-- nothing was put yet, which is a front of the text of any script
+pub nothing_yet : (left a : Option (List ℕ)) (text : List ℕ → List ℕ) → IfSome left (λ script. PutsFront a (text script) a)
+nothing_yet None a text = tt
+nothing_yet (Some script) a text = (0, Puts-nothing a)

@@ -1,3 +1,4 @@
+pub mod Memory
 pub mod Written
 pub mod Ranges
 pub mod Advancing
@@ -6,3 +7,5 @@ pub mod Standing
 pub mod Exits
 pub mod Serial
 mod WorkedRuns
+mod Counting
+pub mod Complete

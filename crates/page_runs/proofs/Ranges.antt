@@ -1,5 +1,6 @@
 -- Parts of a buffer.
 use Rattle.std.proofs.Common.{◌≡◌, ℕ, ◌+◌, ◌-◌, ◌<◌, ◌≤◌, zero, suc, Bool, Option, List, [], ◌∷◌, ◌++◌, length, length-drop, length-take, take, drop, get_or, refl, sym, ap, ◌∙◌, subst, arith, eq-eqb, eqb-true}
+use Rattle.std.specs.Prelude.{Contains}
 use Rattle.std.specs.List.{slice_range}
 use Rattle.std.proofs.lemmas.List.{drop-take, take_all, take-append-drop, get_or-drop, take_at}
 use Rattle.std.proofs.Math.Seq.{take-add}
@@ -101,3 +102,9 @@ Takes-refilled left left' limit size k kept count len new old same full whole ta
 -- how many bytes are still to be given
 pub length-pending : (reading : Reading) (items : List ℕ) (line next end passed : ℕ) → shown items line next end passed ≡ reading → next ≤ end → end ≤ length items → length reading.pending ≡ end - next
 length-pending reading items line next end passed e order inside = sym (ap (λ r. length r.pending) e) ∙ length-slice_range items next end order inside
+
+-- bytes without an end hold no LF
+pub HasNoEnd-lacks : (bytes : List ℕ) → HasNoEnd bytes → Contains bytes 10 → ⊥
+HasNoEnd-lacks [] none there = omega (arith, there.1)
+HasNoEnd-lacks (byte ∷ bytes) none (zero, within, is) = none.0 is
+HasNoEnd-lacks (byte ∷ bytes) none (suc k, within, is) = HasNoEnd-lacks bytes none.1 (k, omega (arith, within), is)

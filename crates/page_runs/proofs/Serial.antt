@@ -1,13 +1,14 @@
 -- The acts of a script are in range, so that what they come to is serial.
-use Rattle.std.proofs.Common.{◌≡◌, ℕ, ◌+◌, true, false, Bool, cond, List, [], ◌∷◌, length, take, Option, Some, None, IfSome, arith, refl}
+use Rattle.std.proofs.Common.{◌≡◌, ℕ, ◌+◌, true, false, Bool, cond, List, [], ◌∷◌, length, take, Option, Some, None, IfSome, refl}
 use Rattle.std.specs.List.{filter_map, cons_option}
 use Rattle.std.proofs.lemmas.List.Elements.{All-cons, All-nil, All-take}
 use Rattle.std.proofs.lemmas.Option.{none-some}
 use Rattle.page_lines.specs.declared.lines.Act.{Act}
 use Rattle.page_lines.specs.Range.{IsInRange, AreInRange}
-use Rattle.page_lines.specs.Serial.{IsSerialFrom}
+use Rattle.page_lines.specs.Serial.{IsSerial}
+use Rattle.page_lines.specs.Legal.{IsLegalFrom}
 use Rattle.page_lines.specs.World.{zeros, start, after}
-use Rattle.page_lines.proofs.SerialLaw.{serial_from_start}
+use Rattle.page_lines.proofs.SerialRuns.{serial_from_start, legal_from_start}
 use Rattle.script.specs.declared.grammar.Act2.TheVariants as page
 use Rattle.script.specs.declared.grammar.Form.TheVariants.{Pages}
 use Rattle.script.specs.declared.grammar.Line.{Line}
@@ -16,7 +17,7 @@ use Rattle.script.specs.Line.{Spells}
 use Rattle.script.specs.Reading.{line_of}
 use Rattle.script.specs.Raw.{raw_lines, is_within, text_of_raw}
 use Rattle.script.proofs.Agreement.{line_of-found}
-use Rattle.page_runs.specs.Outcome.{act_in, line_in, line_before, lines_run, acts_run}
+use Rattle.page_runs.specs.Outcome.{act_in, line_in, line_before, lines_run, acts_run, run_of}
 
 -- the act of a line that is in the grammar
 pub spelled_in_range : (said : Line) (text : List ℕ) → Spells Pages said text → IfSome (act_in said) IsInRange
@@ -49,10 +50,12 @@ lines_in_range passed (raw ∷ raws) =
     (λ said e. spelled_in_range said (text_of_raw raw) (line_of-found Pages (text_of_raw raw) said (tested_some (is_within passed raw) (line_of Pages (text_of_raw raw)) said e)))
     (lines_in_range (passed + length raw) raws)
 
--- a run over any script is serial at each moment
-pub serial_run : (script : List ℕ) (count : ℕ) → IsSerialFrom zeros (after start (take count (acts_run script)))
-serial_run script count = serial_from_start (take count (acts_run script)) (All-take IsInRange count (acts_run script) (lines_in_range 0 (raw_lines script)))
-
-pub serial_told : (left : Option (List ℕ)) → IfSome left (λ script. (count : ℕ) → IsSerialFrom zeros (after start (take count (acts_run script))))
+-- the run of a script is serial, where a source tells one, and the history that it leaves is legal at each moment
+pub serial_told : (left : Option (List ℕ)) → IfSome left (λ script. IsSerial zeros (run_of script))
 serial_told None = tt
-serial_told (Some script) = λ count. serial_run script count
+serial_told (Some script) = serial_from_start (acts_run script) (lines_in_range 0 (raw_lines script))
+
+pub legal_told : (left : Option (List ℕ)) → IfSome left (λ script. (count : ℕ) → IsLegalFrom zeros (after start (take count (acts_run script))))
+legal_told None = tt
+legal_told (Some script) = λ count.
+    legal_from_start (take count (acts_run script)) (All-take IsInRange count (acts_run script) (lines_in_range 0 (raw_lines script)))

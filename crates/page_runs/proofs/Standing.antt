@@ -9,7 +9,7 @@ use Rattle.page_lines.specs.Reply.{reply_text, session_of}
 use Rattle.page_lines.specs.World.{World, step, start, after}
 use Rattle.script.specs.declared.grammar.Line.{Line}
 use Rattle.script.specs.Raw.{raw_lines}
-use Rattle.acts.specs.InMemory.{Memory, IsAt}
+use Rattle.page_runs.specs.InMemory.{Memory, IsAt}
 use Rattle.page_runs.specs.Reading.{WhereTold}
 use Rattle.page_runs.specs.Outcome.{act_in, acts_in, replies, line_in, line_before, lines_run, is_refused, refused_text, text_of}
 use Rattle.page_runs.proofs.Written.{Puts-more}

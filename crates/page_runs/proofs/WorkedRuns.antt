@@ -1,13 +1,11 @@
 -- Small runs, computed from the definitions alone. The answers were worked out by hand from the rules, not taken from a program.
 use Rattle.std.proofs.Common.{◌≡◌, ℕ, List, [], ◌∷◌, replicate, refl}
 use Rattle.page_spec.specs.PageMap.{PageMap}
-use Rattle.page_lines.specs.declared.lines.Act.{Act}
 use Rattle.page_lines.specs.declared.lines.Act.TheVariants as act
-use Rattle.page_lines.specs.declared.lines.Told.{Told}
 use Rattle.page_lines.specs.declared.lines.Told.TheVariants as told
 use Rattle.engine_spec.specs.declared.commits.Receipt.TheVariants.{At, ReadOnly}
 use Rattle.engine_spec.specs.declared.pins.Ckpt.TheVariants.{Idle}
-use Rattle.page_lines.specs.World.{World, world_over, answers_to}
+use Rattle.page_lines.specs.World.{world_over, answers_to}
 
 -- 16 pages of four zeros
 small : PageMap

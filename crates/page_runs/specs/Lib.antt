@@ -1,2 +1,5 @@
 pub mod Reading
+pub mod Status
+pub mod Reply
+pub mod InMemory
 pub mod Outcome

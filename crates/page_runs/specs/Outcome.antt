@@ -1,11 +1,18 @@
 -- What a script of acts on pages in memory does: which of its lines are run, what is written, and with which status it ends.
-use Rattle.std.specs.Prelude.{◌≡◌, ℕ, ◌+◌, ◌≤◌, ◌⊎◌, Bool, true, false, if◌then◌else◌, List, [], ◌∷◌, ◌++◌, length, take, Option, Some, None, is_some, IfSome, codes, decimal}
-use Rattle.std.specs.List.{filter_map, concat}
+use Rattle.std.specs.Prelude.{◌≡◌, ◌≢◌, ℕ, ◌+◌, ◌≤◌, ◌⊎◌, Bool, true, false, if◌then◌else◌, List, [], ◌∷◌, ◌++◌, length, take, Option, Some, None, is_some, IfSome, codes, decimal}
+use Rattle.std.specs.List.{filter_map, concat, flat_map}
 use Rattle.disk_face.specs.Sink.{Puts}
+use Rattle.disk_face.specs.Faults.{Rose}
+use Rattle.disk_face.specs.declared.source.Source as sources
+use Rattle.disk_face.specs.declared.sink.Sink as sinks
 use Rattle.page_lines.specs.declared.lines.Act.{Act}
 use Rattle.page_lines.specs.declared.lines.Act.TheVariants as act
 use Rattle.page_lines.specs.Reply.{reply_text, session_of}
-use Rattle.page_lines.specs.World.{World, step, start}
+use Rattle.page_lines.specs.World.{World, start}
+use Rattle.page_lines.specs.Exchanges.{Exchange, exchanges}
+use Rattle.page_runs.specs.declared.status.Status.{Status}
+use Rattle.page_runs.specs.declared.status.Status.TheVariants as status
+use Rattle.page_runs.specs.Status.{Blames}
 use Rattle.script.specs.declared.grammar.Act2.{Act2}
 use Rattle.script.specs.declared.grammar.Act2.TheVariants as page
 use Rattle.script.specs.declared.grammar.Form.TheVariants.{Pages}
@@ -38,10 +45,13 @@ act_in line.Logs = Some act.Logs
 abbrev pub acts_in : Line → List Act
 acts_in line = filter_map act_in (line ∷ [])
 
+-- the reply of an exchange
+abbrev pub reply_of : Exchange → List ℕ
+reply_of one = reply_text (session_of one.act) one.told
+
 -- the replies to these acts, one after another, from this world on
 abbrev pub replies : World → List Act → List ℕ
-replies world [] = []
-replies world (first ∷ acts) = reply_text (session_of first) (step world first).told ++ replies (step world first).world acts
+replies world acts = flat_map reply_of (exchanges world acts)
 
 -- what a line says that begins behind so many bytes of the script; none where it is past a limit or not in the grammar
 abbrev pub line_in : ℕ → List ℕ → Option Line
@@ -75,9 +85,13 @@ text_from world number passed raws = replies world (filter_map act_in (lines_run
 abbrev pub acts_run : List ℕ → List Act
 acts_run script = filter_map act_in (lines_run 0 (raw_lines script))
 
--- the status of a run over the whole script: 1 where one of its lines is refused, else 0
-abbrev pub status_of : List ℕ → ℕ
-status_of script = if is_refused 0 (raw_lines script) then 1 else 0
+-- the run of a script: the acts that are run, each with what it is answered, which is what is written
+abbrev pub run_of : List ℕ → List Exchange
+run_of script = exchanges start (acts_run script)
+
+-- how a run over the whole script ends: refused where one of its lines is
+abbrev pub status_of : List ℕ → Status
+status_of script = if is_refused 0 (raw_lines script) then status.ScriptRefused else status.Done
 
 -- what a run over the whole script writes: the replies to its lines up to the first that is refused, which the last line names
 abbrev pub text_of : List ℕ → List ℕ
@@ -115,13 +129,28 @@ PutsCut script left before after = (count : ℕ) × IsCut script count left × P
 abbrev pub PutsCutFront : List ℕ → Option (List ℕ) → Option (List ℕ) → Option (List ℕ) → Type 0
 PutsCutFront script left before after = (count : ℕ) × IsCut script count left × PutsFront before (cut_text script count) after
 
--- What a run over this script that ended with a status left of the script, and what it wrote.
--- 0: no line is refused, nothing is left, and all replies were written. 1: a line is refused, and the replies before it and the
--- last line were written. 3: the replies to the lines that the source gave whole were written, and the last line. 4: a front of
--- what is written without faults of the sink. 7: a front of what is written with memory enough.
-pub record Ran (script : List ℕ) (status : ℕ) (left before after : Option (List ℕ)) : Type 0 where
-  pub ended : status ≡ 0 → (status_of script ≡ 0) × (left ≡ Some []) × Puts before (text_of script) after
-  pub line_refused : status ≡ 1 → (status_of script ≡ 1) × Puts before (text_of script) after
-  pub source_failed : status ≡ 3 → PutsCut script left before after
-  pub sink_failed : status ≡ 4 → PutsFront before (text_of script) after ⊎ PutsCutFront script left before after
-  pub no_memory : status ≡ 7 → PutsFront before (text_of script) after
+-- What a run over this script that ended so left of the script, and what it wrote. Done: no line is refused, nothing is left, and all
+-- replies were written. ScriptRefused: a line is refused, and the replies before it and the last line were written. SourceFailed: the
+-- replies to the lines that the source gave whole were written, and the last line. SinkFailed: a front of what is written without
+-- faults of the sink. NoMemory: a front of what is written with memory enough.
+abbrev pub Ran : List ℕ → Status → Option (List ℕ) → Option (List ℕ) → Option (List ℕ) → Type 0
+Ran script status.Done left before after = (status_of script ≡ status.Done) × (left ≡ Some []) × Puts before (text_of script) after
+Ran script status.ScriptRefused left before after = (status_of script ≡ status.ScriptRefused) × Puts before (text_of script) after
+Ran script status.WordsRefused left before after = ⊥
+Ran script status.SourceFailed left before after = PutsCut script left before after
+Ran script status.SinkFailed left before after = PutsFront before (text_of script) after ⊎ PutsCutFront script left before after
+Ran script status.NoMemory left before after = PutsFront before (text_of script) after
+
+-- A run of what a source gives ended so: what each status says of the script, where the source tells it, and of what was written; and
+-- which faults it tells of.
+pub record RunEnds {S K : Type 0} (source : sources.Ghosts S) (sink : sinks.Ghosts K) (ended : Status) (src : S) (out : K) (src' : S)
+    (out' : K) : Type 0 where
+  pub words : ended ≢ status.WordsRefused
+  pub script : IfSome (source.left src) (λ script. Ran script ended (source.left src') (sink.written out) (sink.written out'))
+  pub faults : Blames ended (source.faults src) (source.faults src') (sink.faults out) (sink.faults out')
+
+-- A last line was written, so that the run ends as it says; or the sink failed at it.
+abbrev pub SaysLast : {K : Type 0} → sinks.Ghosts K → List ℕ → Status → Status → K → K → Type 0
+SaysLast sink line saying ended out out' =
+    ((ended ≡ saying) × Puts (sink.written out) line (sink.written out') × (sink.faults out' ≡ sink.faults out))
+    ⊎ ((ended ≡ status.SinkFailed) × PutsFront (sink.written out) line (sink.written out') × Rose (sink.faults out) (sink.faults out'))

@@ -3,11 +3,15 @@
 //! `specs/Outcome.antt` says what a script writes, and with which status its run ends.
 #![tactic(auto)]
 
+mod in_memory;
 mod lines;
 mod output;
 mod pages;
 mod reply;
+mod status;
 
-pub use output::write_all;
+pub use in_memory::{InMemory, engine_of_zeros};
+pub use output::{say_last, write_all};
 pub use pages::run_pages;
 pub use reply::told_text;
+pub use status::Status;

@@ -1,6 +1,11 @@
-// Lines out of a source, through one buffer.
-ghost use Rattle.std.specs.Prelude.{◌≡◌, ℕ, ◌+◌, ◌-◌, ◌<◌, ◌≤◌, [], length, take, drop, if◌then◌else◌, IfOk, IfSome, IfNone, OnOk, OnErr};
-ghost use Rattle.disk_face.specs.Faults.{Rose};
+// Lines out of a source, through one buffer: the line that was given last, then what is still to be given, then room.
+//
+//     0 <= line <= next <= end <= BUFFER
+//     buffer[line..next]  the line that was given last, until the reader looks for another one
+//     buffer[next..end]   what the source gave beyond it
+//     passed              how many bytes of the script were given, never more than the limit
+ghost use Rattle.std.specs.Prelude.{◌≡◌, ℕ, ◌+◌, ◌-◌, ◌<◌, ◌≤◌, [], length, take, drop, if◌then◌else◌, Contains, is_ok, IfOk, IfSome, IfNone, OnErr};
+ghost use Rattle.disk_face.specs.Faults.{Counts};
 ghost use Rattle.disk_face.specs.Source.{Takes};
 ghost use Rattle.script.specs.Raw.{HasNoEnd, is_within, script_limit};
 ghost use Rattle.page_runs.specs.Reading.{Reading, IsEnd, given, script_left, WhereTold, Advances, buffer_limit};
@@ -17,7 +22,8 @@ pub const LINE_LIMIT: usize = 65_536;
 /// The most bytes of a script.
 pub const SCRIPT_LIMIT: usize = 16_777_216;
 
-/// A buffer so full without an LF holds a line that is too long: its end has at most two bytes.
+/// How many bytes a reader holds at most. A buffer that is full without an LF holds a line that is too long, whatever its end is:
+/// at most two of its bytes, a CR and the LF, don't count to its text.
 const BUFFER: usize = LINE_LIMIT + 3;
 
 /// What comes next in a script.
@@ -84,16 +90,16 @@ impl LineReader {
         &self.buffer[self.line..self.next]
     }
 
-    /// Looks for the next line. After `Failed`, which comes only where the source failed, what is left of the script is as before,
-    /// and the reader holds no whole line.
+    /// Looks for the next line. It takes from the source only where it holds no whole line. After `Failed` what is left of the
+    /// script is as before, and the reader holds no whole line.
     pub fn advance<S: Source>(&mut self, src: &mut S) -> Result<Next, Failed>
         ensures next { IfOk result (λ next. WhereTold (script_left self.old (S.left src.old)) (script_left self.new (S.left src.new))
             (Advances next self.old self.new)) }
         ensures progress { IfOk result (λ next. next ≡ Next.Line → (self.old.passed < self.new.passed) × (self.new.passed ≤ script_limit)) }
         ensures failed { OnErr result (script_left self.new (S.left src.new) ≡ script_left self.old (S.left src.old)) }
         ensures unended { OnErr result (HasNoEnd self.new.pending) }
-        ensures cause { OnErr result (Rose (S.faults src.old) (S.faults src.new)) }
-        ensures faults { S.faults src.old ≤ S.faults src.new }
+        ensures whole { Contains self.old.pending 10 → src.new ≡ src.old }
+        ensures faults { Counts (is_ok result) (S.faults src.old) (S.faults src.new) }
         ensures loans { S.loans src.new ≡ S.loans src.old }
     {
         let mut scanned = 0;
@@ -164,8 +170,7 @@ impl LineReader {
         ensures taken { IfOk result (λ count. Takes (S.left src.old) (buffer_limit - length self.old.pending)
             (drop (length self.old.pending) self.new.pending) (S.left src.new)) }
         ensures refused { OnErr result ((self.new.pending ≡ self.old.pending) × (S.left src.new ≡ S.left src.old)) }
-        ensures cause { OnErr result (Rose (S.faults src.old) (S.faults src.new)) }
-        ensures faults { S.faults src.old ≤ S.faults src.new }
+        ensures faults { Counts (is_ok result) (S.faults src.old) (S.faults src.new) }
         ensures loans { S.loans src.new ≡ S.loans src.old }
     {
         self.buffer.copy_within(self.next..self.end, 0);
@@ -193,8 +198,7 @@ fn take_after<S: Source>(src: &mut S, buffer: &mut [u8], kept: usize) -> Result<
     ensures within { IfOk result (λ count. kept + count ≤ length buffer.old) }
     ensures taken { IfOk result (λ count. Takes (S.left src.old) (length buffer.old - kept) (take count (drop kept buffer.new)) (S.left src.new)) }
     ensures refused { OnErr result (S.left src.new ≡ S.left src.old) }
-    ensures cause { OnErr result (Rose (S.faults src.old) (S.faults src.new)) }
-    ensures faults { S.faults src.old ≤ S.faults src.new }
+    ensures faults { Counts (is_ok result) (S.faults src.old) (S.faults src.new) }
     ensures loans { S.loans src.new ≡ S.loans src.old }
 {
     src.take(&mut buffer[kept..])

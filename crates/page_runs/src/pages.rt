@@ -1,17 +1,18 @@
-// A run of page lines over pages in memory.
-ghost use Rattle.std.specs.Prelude.{◌≡◌, ℕ, ◌≤◌, [], ◌∷◌, ◌⊎◌, IfSome, OnOk, OnErr, Contains};
-ghost use Rattle.disk_face.specs.Faults.{Rose};
+// A run of page lines over pages in memory. One line, its run and its reply come before the next line is taken.
+ghost use Rattle.std.specs.Prelude.{◌≡◌, ◌⊎◌, IfSome, OnOk, OnErr};
 ghost use Rattle.disk_face.specs.Sink.{Puts};
 ghost use Rattle.page_lines.specs.Reply.{reply_text, session_of};
 ghost use Rattle.page_lines.specs.World.{World, step, after};
-ghost use Rattle.acts.specs.InMemory.{IsAt};
+ghost use Rattle.page_runs.specs.InMemory.{IsAt};
 ghost use Rattle.page_lines.specs.Range.{IsInRange};
-ghost use Rattle.page_runs.specs.Outcome.{act_in, acts_in, page_act, replies, refused_text, source_failed, PutsFront, Ran};
+ghost use Rattle.page_runs.specs.declared.status.Status.TheVariants as status;
+ghost use Rattle.page_runs.specs.Outcome.{act_in, acts_in, page_act, replies, refused_text, PutsFront, RunEnds, SaysLast};
+ghost use Rattle.page_runs.specs.Reply.{CountsReply};
 
 use crate::lines::{LineReader, Next};
-use crate::output::write_all;
+use crate::output::{say_last, write_all};
 use crate::reply::{refused_line, told_text};
-use acts::InMemory;
+use crate::{InMemory, Status};
 use disk_face::{Failed, Sink, Source};
 use page_lines::Act;
 use script::{Act2, Form, Line, line_text, read_line};
@@ -27,37 +28,32 @@ enum Unanswered {
 }
 
 /// Runs the lines that the source gives, each of which is answered before the next one is taken.
-/// The statuses are those of [`top`](crate::top::top).
-pub fn run_pages<S: Source, K: Sink>(alloc: Global, src: &mut S, out: &mut K) -> u8
-    ensures statuses { Contains (0 ∷ 1 ∷ 3 ∷ 4 ∷ 7 ∷ []) result }
-    ensures source { result ≡ 3 → Rose (S.faults src.old) (S.faults src.new) }
-    ensures sink { result ≡ 4 → Rose (K.faults out.old) (K.faults out.new) }
-    ensures script { IfSome (S.left src.old) (λ script. Ran script result (S.left src.new) (K.written out.old) (K.written out.new)) }
-    ensures faults { (S.faults src.old ≤ S.faults src.new) × (K.faults out.old ≤ K.faults out.new) }
+pub fn run_pages<S: Source, K: Sink>(alloc: Global, src: &mut S, out: &mut K) -> Status
+    ensures run { RunEnds S.Source K.Sink result src.old out.old src.new out.new }
     ensures loans { (S.loans src.new ≡ S.loans src.old) × (K.loans out.new ≡ K.loans out.old) }
 {
     let Ok(mut memory) = InMemory::new(alloc) else {
-        return 7;
+        return Status::NoMemory;
     };
     let Ok(mut lines) = LineReader::new(alloc) else {
-        return 7;
+        return Status::NoMemory;
     };
     let mut text = Vec::new(alloc);
     let mut number: u64 = 1;
     'lines: loop {
         match lines.advance(src) {
             Ok(Next::Line) => {}
-            Ok(Next::End) => return 0,
+            Ok(Next::End) => return Status::Done,
             Ok(Next::Refused) => return say_refused(number, &mut text, out),
-            Err(Failed) => return say_failed(out),
+            Err(Failed) => return say_last(out, b"source failed\n", Status::SourceFailed),
         }
         let Some(line) = read_line(line_text(lines.line()), Form::Pages) else {
             return say_refused(number, &mut text, out);
         };
         match run_line(&mut memory, line, &mut text, out) {
             Ok(()) => number += 1,
-            Err(Unanswered::Sink) => return 4,
-            Err(Unanswered::Memory) => return 7,
+            Err(Unanswered::Sink) => return Status::SinkFailed,
+            Err(Unanswered::Memory) => return Status::NoMemory,
         }
     }
 }
@@ -76,8 +72,7 @@ fn run_line<K: Sink>(
         × Puts (K.written out.old) (replies world (acts_in line)) (K.written out.new)) }
     ensures err { (world : World) → IsAt memory.old world
         → OnErr result (PutsFront (K.written out.old) (replies world (acts_in line)) (K.written out.new)) }
-    ensures sink { result ≡ Err Unanswered.Sink → Rose (K.faults out.old) (K.faults out.new) }
-    ensures faults { K.faults out.old ≤ K.faults out.new }
+    ensures faults { CountsReply result (K.faults out.old) (K.faults out.new) }
     ensures loans { K.loans out.new ≡ K.loans out.old }
 {
     match act_in(line) {
@@ -142,8 +137,7 @@ fn answer<K: Sink>(
         × Puts (K.written out.old) (reply_text (session_of act) (step world act).told) (K.written out.new)) }
     ensures err { (world : World) → IsAt memory.old world
         → OnErr result (PutsFront (K.written out.old) (reply_text (session_of act) (step world act).told) (K.written out.new)) }
-    ensures sink { result ≡ Err Unanswered.Sink → Rose (K.faults out.old) (K.faults out.new) }
-    ensures faults { K.faults out.old ≤ K.faults out.new }
+    ensures faults { CountsReply result (K.faults out.old) (K.faults out.new) }
     ensures loans { K.loans out.new ≡ K.loans out.old }
 {
     let Ok(told) = memory.act(act) else {
@@ -159,34 +153,15 @@ fn answer<K: Sink>(
     }
 }
 
-/// Writes the last line of a run that refused its line of this number. The status is 1, or 4 where the sink failed, or 7.
-fn say_refused<K: Sink>(number: u64, text: &mut Vec<u8>, out: &mut K) -> u8
-    ensures said { ((result ≡ 1) × Puts (K.written out.old) (refused_text number) (K.written out.new))
-        ⊎ (((result ≡ 4) ⊎ (result ≡ 7)) × PutsFront (K.written out.old) (refused_text number) (K.written out.new)) }
-    ensures sink { result ≡ 4 → Rose (K.faults out.old) (K.faults out.new) }
-    ensures faults { K.faults out.old ≤ K.faults out.new }
+/// Writes the last line of a run that refused its line of this number.
+fn say_refused<K: Sink>(number: u64, text: &mut Vec<u8>, out: &mut K) -> Status
+    ensures said { SaysLast K.Sink (refused_text number) status.ScriptRefused result out.old out.new
+        ⊎ ((result ≡ status.NoMemory) × (out.new ≡ out.old)) }
     ensures loans { K.loans out.new ≡ K.loans out.old }
 {
     text.clear();
-    if refused_line(number, text).is_err() {
-        return 7;
-    }
-    match write_all(out, text) {
-        Ok(()) => 1,
-        Err(Failed) => 4,
-    }
-}
-
-/// Writes the last line of a run whose source failed. The status is 3, or 4 where the sink failed.
-fn say_failed<K: Sink>(out: &mut K) -> u8
-    ensures said { ((result ≡ 3) × Puts (K.written out.old) source_failed (K.written out.new))
-        ⊎ ((result ≡ 4) × PutsFront (K.written out.old) source_failed (K.written out.new)) }
-    ensures sink { result ≡ 4 → Rose (K.faults out.old) (K.faults out.new) }
-    ensures faults { K.faults out.old ≤ K.faults out.new }
-    ensures loans { K.loans out.new ≡ K.loans out.old }
-{
-    match write_all(out, b"source failed\n") {
-        Ok(()) => 3,
-        Err(Failed) => 4,
+    match refused_line(number, text) {
+        Ok(()) => say_last(out, text, Status::ScriptRefused),
+        Err(_) => Status::NoMemory,
     }
 }

@@ -6,7 +6,7 @@ abbrev pub invariant-loop-done : goal.invariant-loop-done
 invariant-loop-done g l = record {
   within : l.done ≤ length l.piece;
   written : Puts (g.K.Sink.written l.initial.out) (take l.done l.piece) (g.K.Sink.written l.out);
-  faults : g.K.Sink.faults l.initial.out ≤ g.K.Sink.faults l.out;
+  faults : g.K.Sink.faults l.out ≡ g.K.Sink.faults l.initial.out;
   loans : g.K.Sink.loans l.out ≡ g.K.Sink.loans l.initial.out;
 }
 

@@ -1,10 +1,14 @@
-use Rattle.std.proofs.Common.{refl, ◌∙◌, arith}
+use Rattle.std.proofs.Common.{refl, subst, ◌∙◌, arith, inl, Err}
+use Rattle.disk_face.specs.Faults.{Rose}
 use Rattle.page_runs.specs.declared.lines.Next.TheVariants as next
+use Rattle.page_runs.specs.declared.status.Status.TheVariants as ended
 use Rattle.page_runs.specs.Reading.{script_left}
+use Rattle.page_runs.specs.Reply.{CountsReply}
 use Rattle.page_lines.specs.World.{start, after}
-use Rattle.page_runs.specs.Outcome.{acts_in, Ran}
+use Rattle.page_runs.specs.Outcome.{acts_in, text_of, Ran}
 use Rattle.page_runs.proofs.Serial.{spelled_in_range}
-use Rattle.page_runs.proofs.Exits.{status_4, status_7, status_said, status_cut, started, ended, past_limit, not_in_grammar, cut_there, front_there, goes_on, as_next, Ran_4, Ran_7}
+use Rattle.page_runs.proofs.Fronts.{nothing_yet}
+use Rattle.page_runs.proofs.Exits.{started, at_end, past_limit, not_in_grammar, cut_there, front_there, goes_on, as_next, said_refused, said_cut, no_words, ends_refused, ends_cut}
 use Rattle.page_runs.proofs.pages.run_pages.Goals as goal
 
 pub lines-init : goal.lines-init
@@ -13,59 +17,80 @@ lines-init g c = record {
   stands = (start, c.in-Ok.ensures);
   number = omega arith;
   limit = omega (arith, c.in-Ok-new.ensures.2);
-  source_faults = omega arith;
-  sink_faults = omega arith;
+  source_faults = refl;
+  sink_faults = refl;
   source_loans = refl;
   sink_loans = refl;
 }
 
-pub returns-in-Ok-End-clause-script : goal.returns-in-Ok-End-clause-script
-returns-in-Ok-End-clause-script g c =
-    ended (g.S.Source.left c.args.src.now) (g.S.Source.left c.lines.src) (g.S.Source.left c.advance.new.src) (g.K.Sink.written c.args.out.now) (g.K.Sink.written c.lines.out) c.lines.number c.lines.lines c.advance.new.self c.lines.memory c.lines.invariant.standing (as_next c.in-Ok-End.field-0 next.End c.in-Ok-End.field-0-is (script_left c.lines.lines (g.S.Source.left c.lines.src)) (script_left c.advance.new.self (g.S.Source.left c.advance.new.src)) c.lines.lines c.advance.new.self c.in-Ok-End.ensures.next)
+pub returns-in_default-clause-run : goal.returns-in_default-clause-run
+returns-in_default-clause-run g c = record {
+  words = no_words ended.NoMemory (λ e. omega (arith, e));
+  script = nothing_yet (g.S.Source.left c.args.src.now) (g.K.Sink.written c.args.out.now) text_of;
+  faults = (refl, refl);
+}
 
-pub returns-in-Ok-Refused-clause-statuses : goal.returns-in-Ok-Refused-clause-statuses
-returns-in-Ok-Refused-clause-statuses g c = status_said c.say_refused.result _ _ c.say_refused.ensures.said
+pub returns-in-Ok-End-clause-run : goal.returns-in-Ok-End-clause-run
+returns-in-Ok-End-clause-run g c = record {
+  words = no_words ended.Done (λ e. omega (arith, e));
+  script = at_end (g.S.Source.left c.args.src.now) (g.S.Source.left c.lines.src) (g.S.Source.left c.advance.new.src) (g.K.Sink.written c.args.out.now) (g.K.Sink.written c.lines.out) c.lines.number c.lines.lines c.advance.new.self c.lines.memory c.lines.invariant.standing (as_next c.in-Ok-End.field-0 next.End c.in-Ok-End.field-0-is (script_left c.lines.lines (g.S.Source.left c.lines.src)) (script_left c.advance.new.self (g.S.Source.left c.advance.new.src)) c.lines.lines c.advance.new.self c.in-Ok-End.ensures.next);
+  faults = (c.in-Ok-End.ensures.faults ∙ c.lines.invariant.source_faults, c.lines.invariant.sink_faults);
+}
 
-pub returns-in-Ok-Refused-clause-script : goal.returns-in-Ok-Refused-clause-script
-returns-in-Ok-Refused-clause-script g c =
-    past_limit (g.S.Source.left c.args.src.now) (g.S.Source.left c.lines.src) (g.S.Source.left c.advance.new.src) (g.K.Sink.written c.args.out.now) (g.K.Sink.written c.lines.out) (g.K.Sink.written c.say_refused.new.out) c.lines.number c.say_refused.result c.lines.lines c.advance.new.self c.lines.memory c.lines.invariant.standing (as_next c.in-Ok-Refused.field-0 next.Refused c.in-Ok-Refused.field-0-is (script_left c.lines.lines (g.S.Source.left c.lines.src)) (script_left c.advance.new.self (g.S.Source.left c.advance.new.src)) c.lines.lines c.advance.new.self c.in-Ok-Refused.ensures.next) c.say_refused.ensures.said
+pub returns-in-Ok-Refused-clause-run : goal.returns-in-Ok-Refused-clause-run
+returns-in-Ok-Refused-clause-run g c =
+    ends_refused g.S.Source g.K.Sink c.lines.number c.say_refused.result c.args.src.now c.advance.new.src c.args.out.now c.lines.out c.say_refused.new.out
+    (c.in-Ok-Refused.ensures.faults ∙ c.lines.invariant.source_faults) c.lines.invariant.sink_faults c.say_refused.ensures.said
+    (past_limit (g.S.Source.left c.args.src.now) (g.S.Source.left c.lines.src) (g.S.Source.left c.advance.new.src) (g.K.Sink.written c.args.out.now) (g.K.Sink.written c.lines.out) (g.K.Sink.written c.say_refused.new.out) c.lines.number c.say_refused.result c.lines.lines c.advance.new.self c.lines.memory c.lines.invariant.standing (as_next c.in-Ok-Refused.field-0 next.Refused c.in-Ok-Refused.field-0-is (script_left c.lines.lines (g.S.Source.left c.lines.src)) (script_left c.advance.new.self (g.S.Source.left c.advance.new.src)) c.lines.lines c.advance.new.self c.in-Ok-Refused.ensures.next)
+    (said_refused g.K.Sink c.lines.number c.say_refused.result c.lines.out c.say_refused.new.out c.say_refused.ensures.said))
 
-pub returns-in-Err-clause-statuses : goal.returns-in-Err-clause-statuses
-returns-in-Err-clause-statuses g c = status_cut c.say_failed.result _ _ c.say_failed.ensures.said
+pub returns-in-Err-clause-run : goal.returns-in-Err-clause-run
+returns-in-Err-clause-run g c =
+    ends_cut g.S.Source g.K.Sink c.say_last.result c.args.src.now c.advance.new.src c.args.out.now c.lines.out c.say_last.new.out
+    (subst (λ n. Rose n (g.S.Source.faults c.advance.new.src)) c.lines.invariant.source_faults c.in-Err.ensures.faults) c.lines.invariant.sink_faults c.say_last.ensures.said
+    (cut_there (g.S.Source.left c.args.src.now) (g.S.Source.left c.lines.src) (g.S.Source.left c.advance.new.src) (g.K.Sink.written c.args.out.now) (g.K.Sink.written c.lines.out) (g.K.Sink.written c.say_last.new.out) c.lines.number c.say_last.result c.lines.lines c.advance.new.self c.lines.memory c.lines.invariant.standing c.in-Err.ensures.failed c.in-Err.ensures.unended
+    (said_cut g.K.Sink c.say_last.result c.lines.out c.say_last.new.out c.say_last.ensures.said))
 
-pub returns-in-Err-clause-script : goal.returns-in-Err-clause-script
-returns-in-Err-clause-script g c =
-    cut_there (g.S.Source.left c.args.src.now) (g.S.Source.left c.lines.src) (g.S.Source.left c.advance.new.src) (g.K.Sink.written c.args.out.now) (g.K.Sink.written c.lines.out) (g.K.Sink.written c.say_failed.new.out) c.lines.number c.say_failed.result c.lines.lines c.advance.new.self c.lines.memory c.lines.invariant.standing c.in-Err.ensures.failed c.in-Err.ensures.unended c.say_failed.ensures.said
-
-pub returns-in_default-read_line-clause-statuses : goal.returns-in_default-read_line-clause-statuses
-returns-in_default-read_line-clause-statuses g c = status_said c.say_refused-in_default-read_line.result _ _ c.say_refused-in_default-read_line.ensures.said
-
-pub returns-in_default-read_line-clause-script : goal.returns-in_default-read_line-clause-script
-returns-in_default-read_line-clause-script g c =
-    not_in_grammar (g.S.Source.left c.args.src.now) (g.S.Source.left c.lines.src) (g.S.Source.left c.advance.new.src) (g.K.Sink.written c.args.out.now) (g.K.Sink.written c.lines.out) (g.K.Sink.written c.say_refused-in_default-read_line.new.out) c.lines.number c.say_refused-in_default-read_line.result c.lines.lines c.advance.new.self c.lines.memory c.line.result.now c.line_text.result.now c.lines.invariant.standing (as_next c.in-Ok-Line.field-0 next.Line c.in-Ok-Line.field-0-is (script_left c.lines.lines (g.S.Source.left c.lines.src)) (script_left c.advance.new.self (g.S.Source.left c.advance.new.src)) c.lines.lines c.advance.new.self c.in-Ok-Line.ensures.next) c.line.ensures c.line_text.ensures c.in_default-read_line.ensures.meaning c.say_refused-in_default-read_line.ensures.said
+pub returns-in_default-read_line-clause-run : goal.returns-in_default-read_line-clause-run
+returns-in_default-read_line-clause-run g c =
+    let said = c.say_refused-in_default-read_line in
+    ends_refused g.S.Source g.K.Sink c.lines.number said.result c.args.src.now c.advance.new.src c.args.out.now c.lines.out said.new.out
+    (c.in-Ok-Line.ensures.faults ∙ c.lines.invariant.source_faults) c.lines.invariant.sink_faults said.ensures.said
+    (not_in_grammar (g.S.Source.left c.args.src.now) (g.S.Source.left c.lines.src) (g.S.Source.left c.advance.new.src) (g.K.Sink.written c.args.out.now) (g.K.Sink.written c.lines.out) (g.K.Sink.written said.new.out) c.lines.number said.result c.lines.lines c.advance.new.self c.lines.memory c.line.result.now c.line_text.result.now c.lines.invariant.standing (as_next c.in-Ok-Line.field-0 next.Line c.in-Ok-Line.field-0-is (script_left c.lines.lines (g.S.Source.left c.lines.src)) (script_left c.advance.new.self (g.S.Source.left c.advance.new.src)) c.lines.lines c.advance.new.self c.in-Ok-Line.ensures.next) c.line.ensures c.line_text.ensures c.in_default-read_line.ensures.meaning
+    (said_refused g.K.Sink c.lines.number said.result c.lines.out said.new.out said.ensures.said))
 
 pub run_line-requires-clause-range : goal.run_line-requires-clause-range
 run_line-requires-clause-range g c = spelled_in_range c.in-Some.line c.line_text.result.now c.in-Some.ensures.spelled
 
-pub returns-in-Err-Sink-clause-statuses : goal.returns-in-Err-Sink-clause-statuses
-returns-in-Err-Sink-clause-statuses g c = status_4
-
-pub returns-in-Err-Sink-clause-script : goal.returns-in-Err-Sink-clause-script
-returns-in-Err-Sink-clause-script g c =
+pub returns-in-Err-Sink-clause-run : goal.returns-in-Err-Sink-clause-run
+returns-in-Err-Sink-clause-run g c =
     let before = g.K.Sink.written c.args.out.now in
     let now = g.K.Sink.written c.run_line.new.out in
     let left = g.S.Source.left c.advance.new.src in
-    front_there (g.S.Source.left c.args.src.now) (g.S.Source.left c.lines.src) left before (g.K.Sink.written c.lines.out) now c.lines.number c.lines.lines c.advance.new.self c.lines.memory c.line.result.now c.line_text.result.now c.in-Some.line (λ script. Ran script 4 left before now) c.lines.invariant.standing (as_next c.in-Ok-Line.field-0 next.Line c.in-Ok-Line.field-0-is (script_left c.lines.lines (g.S.Source.left c.lines.src)) (script_left c.advance.new.self (g.S.Source.left c.advance.new.src)) c.lines.lines c.advance.new.self c.in-Ok-Line.ensures.next) c.line.ensures c.line_text.ensures c.in-Some.ensures.meaning c.in-Err-Sink.ensures.err (λ script front. Ran_4 script left before now front)
+    record {
+      words = no_words ended.SinkFailed (λ e. omega (arith, e));
+      script = front_there (g.S.Source.left c.args.src.now) (g.S.Source.left c.lines.src) left before (g.K.Sink.written c.lines.out) now c.lines.number c.lines.lines c.advance.new.self c.lines.memory c.line.result.now c.line_text.result.now c.in-Some.line (λ script. Ran script ended.SinkFailed left before now) c.lines.invariant.standing (as_next c.in-Ok-Line.field-0 next.Line c.in-Ok-Line.field-0-is (script_left c.lines.lines (g.S.Source.left c.lines.src)) (script_left c.advance.new.self (g.S.Source.left c.advance.new.src)) c.lines.lines c.advance.new.self c.in-Ok-Line.ensures.next) c.line.ensures c.line_text.ensures c.in-Some.ensures.meaning c.in-Err-Sink.ensures.err (λ script front. inl front);
+      faults = (
+        inl (c.in-Ok-Line.ensures.faults ∙ c.lines.invariant.source_faults),
+        subst (λ n. Rose n (g.K.Sink.faults c.run_line.new.out)) c.lines.invariant.sink_faults
+            (subst (λ it. CountsReply {T = Unit {0}} (Err it) (g.K.Sink.faults c.lines.out) (g.K.Sink.faults c.run_line.new.out)) c.in-Err-Sink.field-0-is c.in-Err-Sink.ensures.faults),
+      );
+    }
 
-pub returns-in-Err-Memory-clause-statuses : goal.returns-in-Err-Memory-clause-statuses
-returns-in-Err-Memory-clause-statuses g c = status_7
-
-pub returns-in-Err-Memory-clause-script : goal.returns-in-Err-Memory-clause-script
-returns-in-Err-Memory-clause-script g c =
+pub returns-in-Err-Memory-clause-run : goal.returns-in-Err-Memory-clause-run
+returns-in-Err-Memory-clause-run g c =
     let before = g.K.Sink.written c.args.out.now in
     let now = g.K.Sink.written c.run_line.new.out in
     let left = g.S.Source.left c.advance.new.src in
-    front_there (g.S.Source.left c.args.src.now) (g.S.Source.left c.lines.src) left before (g.K.Sink.written c.lines.out) now c.lines.number c.lines.lines c.advance.new.self c.lines.memory c.line.result.now c.line_text.result.now c.in-Some.line (λ script. Ran script 7 left before now) c.lines.invariant.standing (as_next c.in-Ok-Line.field-0 next.Line c.in-Ok-Line.field-0-is (script_left c.lines.lines (g.S.Source.left c.lines.src)) (script_left c.advance.new.self (g.S.Source.left c.advance.new.src)) c.lines.lines c.advance.new.self c.in-Ok-Line.ensures.next) c.line.ensures c.line_text.ensures c.in-Some.ensures.meaning c.in-Err-Memory.ensures.err (λ script front. Ran_7 script left before now front)
+    record {
+      words = no_words ended.NoMemory (λ e. omega (arith, e));
+      script = front_there (g.S.Source.left c.args.src.now) (g.S.Source.left c.lines.src) left before (g.K.Sink.written c.lines.out) now c.lines.number c.lines.lines c.advance.new.self c.lines.memory c.line.result.now c.line_text.result.now c.in-Some.line (λ script. Ran script ended.NoMemory left before now) c.lines.invariant.standing (as_next c.in-Ok-Line.field-0 next.Line c.in-Ok-Line.field-0-is (script_left c.lines.lines (g.S.Source.left c.lines.src)) (script_left c.advance.new.self (g.S.Source.left c.advance.new.src)) c.lines.lines c.advance.new.self c.in-Ok-Line.ensures.next) c.line.ensures c.line_text.ensures c.in-Some.ensures.meaning c.in-Err-Memory.ensures.err (λ script front. front);
+      faults = (
+        c.in-Ok-Line.ensures.faults ∙ c.lines.invariant.source_faults,
+        subst (λ it. CountsReply {T = Unit {0}} (Err it) (g.K.Sink.faults c.lines.out) (g.K.Sink.faults c.run_line.new.out)) c.in-Err-Memory.field-0-is c.in-Err-Memory.ensures.faults
+            ∙ c.lines.invariant.sink_faults,
+      );
+    }
 
 pub lines-preserved : goal.lines-preserved
 lines-preserved g c =
@@ -76,8 +101,8 @@ lines-preserved g c =
       stands = (after loop.stands.0 (acts_in c.in-Some.line), (c.in-Ok-run_line.ensures.ok loop.stands.0 loop.stands.1).0);
       number = omega (arith, loop.number, onward.0);
       limit = onward.1;
-      source_faults = omega (arith, loop.source_faults, c.in-Ok-Line.ensures.faults);
-      sink_faults = omega (arith, loop.sink_faults, c.in-Ok-run_line.ensures.faults);
+      source_faults = c.in-Ok-Line.ensures.faults ∙ loop.source_faults;
+      sink_faults = c.in-Ok-run_line.ensures.faults ∙ loop.sink_faults;
       source_loans = c.in-Ok-Line.ensures.loans ∙ loop.source_loans;
       sink_loans = c.in-Ok-run_line.ensures.loans ∙ loop.sink_loans;
     }

@@ -1,7 +1,7 @@
 use Rattle.std.proofs.Common.{◌≡◌, ◌≤◌, ◌+◌, ◌-◌, IfSome}
 use Rattle.page_lines.specs.World.{World}
 use Rattle.script.specs.Raw.{script_limit}
-use Rattle.acts.specs.InMemory.{IsAt}
+use Rattle.page_runs.specs.InMemory.{IsAt}
 use Rattle.page_runs.specs.Reading.{script_left}
 use Rattle.page_runs.proofs.Standing.{Standing}
 use Rattle.page_runs.proofs.pages.run_pages.Given as goal
@@ -12,8 +12,8 @@ invariant-lines g l = record {
   stands : (world : World) × IsAt l.memory world;
   number : l.number ≤ l.lines.passed + 1;
   limit : l.lines.passed ≤ script_limit;
-  source_faults : g.S.Source.faults l.initial.src ≤ g.S.Source.faults l.src;
-  sink_faults : g.K.Sink.faults l.initial.out ≤ g.K.Sink.faults l.out;
+  source_faults : g.S.Source.faults l.src ≡ g.S.Source.faults l.initial.src;
+  sink_faults : g.K.Sink.faults l.out ≡ g.K.Sink.faults l.initial.out;
   source_loans : g.S.Source.loans l.src ≡ g.S.Source.loans l.initial.src;
   sink_loans : g.K.Sink.loans l.out ≡ g.K.Sink.loans l.initial.out;
 }

@@ -1,7 +1,8 @@
-use Rattle.std.proofs.Common.{◌≡◌, ◌<◌, ◌-◌, [], length, take, drop, sym, subst, ◌∙◌, arith}
+use Rattle.std.proofs.Common.{◌≡◌, ◌<◌, ◌-◌, [], length, take, drop, sym, subst, ◌∙◌, arith, Contains}
 use Rattle.std.proofs.lemmas.List.{take_all, drop_all}
 use Rattle.script.specs.Raw.{HasNoEnd}
 use Rattle.page_runs.specs.Reading.{Advances, WhereTold, buffer_limit, script_left}
+use Rattle.page_runs.proofs.Ranges.{HasNoEnd-lacks}
 use Rattle.page_runs.proofs.Advancing.{script_left-refilled, told-given, told-full, told-last, ended}
 use Rattle.page_runs.proofs.lines.LineReader.advance.Goals as goal
 
@@ -54,6 +55,16 @@ look-preserved g c =
       scanned = omega (arith, whole, more.count);
       looked = subst (λ n. HasNoEnd (take n c.refill.new.self.pending)) (sym whole) (subst HasNoEnd (sym more.kept) c.in_default.ensures.none);
       passed = more.passed ∙ loop.passed;
-      faults = omega (arith, more.faults);
+      whole = λ there. absurd (HasNoEnd-lacks c.look.self.pending c.in_default.ensures.none
+          (subst (λ bytes. Contains bytes 10) (sym (loop.whole there).1) there));
+      faults = more.faults ∙ loop.faults;
       loans = more.loans ∙ loop.loans;
     }
+
+pub returns-in_err-refill-clause-whole : goal.returns-in_err-refill-clause-whole
+returns-in_err-refill-clause-whole g c = λ there. absurd (HasNoEnd-lacks c.look.self.pending c.in_default.ensures.none
+    (subst (λ bytes. Contains bytes 10) (sym (c.look.invariant.whole there).1) there))
+
+pub returns-else-scanned-eq0-clause-whole : goal.returns-else-scanned-eq0-clause-whole
+returns-else-scanned-eq0-clause-whole g c = λ there. absurd (HasNoEnd-lacks c.look.self.pending c.in_default.ensures.none
+    (subst (λ bytes. Contains bytes 10) (sym (c.look.invariant.whole there).1) there))

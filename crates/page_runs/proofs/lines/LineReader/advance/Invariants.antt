@@ -1,4 +1,4 @@
-use Rattle.std.proofs.Common.{◌≡◌, ◌≤◌, ◌-◌, length, take}
+use Rattle.std.proofs.Common.{◌≡◌, ◌≤◌, ◌-◌, length, take, Contains}
 use Rattle.script.specs.Raw.{HasNoEnd}
 use Rattle.page_runs.specs.Reading.{script_left, buffer_limit}
 use Rattle.page_runs.proofs.lines.LineReader.advance.Given as goal
@@ -9,7 +9,8 @@ invariant-look g l = record {
   scanned : l.scanned ≤ length l.self.pending;
   looked : HasNoEnd (take l.scanned l.self.pending);
   passed : l.self.passed ≡ l.initial.self.passed;
-  faults : g.S.Source.faults l.initial.src ≤ g.S.Source.faults l.src;
+  whole : Contains l.initial.self.pending 10 → (l.src ≡ l.initial.src) × (l.self.pending ≡ l.initial.self.pending);
+  faults : g.S.Source.faults l.src ≡ g.S.Source.faults l.initial.src;
   loans : g.S.Source.loans l.src ≡ g.S.Source.loans l.initial.src;
 }
 

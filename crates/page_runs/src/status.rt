@@ -1,0 +1,36 @@
+// How a run ended.
+ghost use Rattle.std.specs.Prelude.{◌≡◌};
+ghost use Rattle.page_runs.specs.Status.{code_of};
+
+/// How a run of the program ended.
+#[derive(Clone, Copy, Debug, PartialEq, Eq)]
+pub enum Status {
+    /// The script was read to its end.
+    Done,
+    /// A line isn't in the grammar or past a limit, and the last line written names it.
+    ScriptRefused,
+    /// The words ask for nothing that there is, and the only line written says so.
+    WordsRefused,
+    /// The source failed, and the last line written says so.
+    SourceFailed,
+    /// The sink failed.
+    SinkFailed,
+    /// Memory ran out.
+    NoMemory,
+}
+
+impl Status {
+    /// The number that the program ends with.
+    pub fn code(self) -> u8
+        ensures { result ≡ code_of self }
+    {
+        match self {
+            Status::Done => 0,
+            Status::ScriptRefused => 1,
+            Status::WordsRefused => 2,
+            Status::SourceFailed => 3,
+            Status::SinkFailed => 4,
+            Status::NoMemory => 7,
+        }
+    }
+}
