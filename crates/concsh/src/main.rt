@@ -1,14 +1,17 @@
 //! Runs a script of lines on standard input, and writes the reply to each on standard output.
 #![tactic(auto)]
 
+ghost use Rattle.std.specs.Prelude.{◌≡◌, drop, map, IfOk, string_bytes};
+ghost use Rattle.std_alloc.specs.Vec.Iter.{into_iter_items};
+
 #[cfg(test)]
 mod tests;
 mod top;
 
 use disk_face::Word;
 use disk_real::{FileDisk, NumberSalts, StdSink, StdSource};
-use std::alloc::Global;
-use std::env::Env;
+use std::alloc::{AllocError, Global};
+use std::env::{Args, Env};
 use std::hash::{BuildHasher, RandomState};
 use std::io::ErrorKind;
 use std::process::ExitCode;
@@ -31,16 +34,21 @@ fn main(rt: HostRuntime) -> ExitCode {
 /// The words of the command line after the program's name. Words that aren't UTF-8 ask for nothing that there is, and none
 /// are given for them. The error is want of memory.
 fn given_words(rt: &(impl Env + Alloc<A = Global>), alloc: Global) -> io::Result<Vec<Word>> {
-    let mut words = Vec::new(alloc);
     match env::args(rt) {
-        Ok(mut args) => {
-            args.next();
-            for arg in args {
-                words.push(Word::of(alloc, arg.as_bytes())?)?;
-            }
-        }
-        Err(error) if error.kind() == ErrorKind::InvalidData => {}
-        Err(error) => return Err(error),
+        Ok(args) => Ok(words_of(alloc, args)?),
+        Err(error) if error.kind() == ErrorKind::InvalidData => Ok(Vec::new(alloc)),
+        Err(error) => Err(error),
+    }
+}
+
+/// The words after the first argument, which is the program's name. The error is want of memory.
+fn words_of(alloc: Global, mut args: Args) -> Result<Vec<Word>, AllocError>
+    ensures { IfOk result (λ words. words.items ≡ map string_bytes (drop 1 (into_iter_items args))) }
+{
+    args.next();
+    let mut words = Vec::new(alloc);
+    for arg in args {
+        words.push(Word::of(alloc, arg.as_bytes())?)?;
     }
     Ok(words)
 }

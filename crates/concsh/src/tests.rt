@@ -1,7 +1,8 @@
 use crate::top::top;
-use disk_face::Word;
+use disk_face::{Failed, Source, Word};
 use disk_mem::{FixedSalts, MemDisk, MemSink, MemSource};
 use std::alloc::{AllocError, Global};
+use std::process::Abort;
 use std::test::Fail;
 
 /// One run, and what it has to come to.
@@ -29,6 +30,19 @@ fn run(
     source_fails: Option<u64>,
     sink_fails: Option<u64>,
 ) -> Result<(u8, MemSink), AllocError> {
+    let mut source = MemSource::new(script, piece.max(1), source_fails);
+    let mut sink = MemSink::new(alloc, piece.max(1), sink_fails);
+    let status = run_over(alloc, word, &mut source, &mut sink)?;
+    Ok((status, sink))
+}
+
+/// Runs with ample memory over this source and sink, and gives the status.
+fn run_over(
+    alloc: Global,
+    word: &[u8],
+    source: &mut MemSource,
+    sink: &mut MemSink,
+) -> Result<u8, AllocError> {
     let mut words = Vec::new(alloc);
     words.push(Word::of(alloc, word)?)?;
     let mut disk = MemDisk::new(
@@ -38,11 +52,8 @@ fn run(
         Vec::new(alloc),
         Vec::new(alloc),
     );
-    let mut source = MemSource::new(script, piece.max(1), source_fails);
-    let mut sink = MemSink::new(alloc, piece.max(1), sink_fails);
     let mut salts = FixedSalts::new(Vec::new(alloc));
-    let status = top(alloc, &words, &mut disk, &mut source, &mut sink, &mut salts);
-    Ok((status, sink))
+    Ok(top(alloc, &words, &mut disk, source, sink, &mut salts))
 }
 
 /// A run of `pages` that meets no fault.
@@ -187,5 +198,110 @@ fn limits(rt: HostRuntime) -> Result<(), Fail> {
         assert_eq!(rt; sink.written(), written);
         assert_eq!(rt; status, expected);
     }
+    Ok(())
+}
+
+/// How many bytes a source still gives.
+fn left_in(source: &mut MemSource) -> usize {
+    let mut piece = [0; 64];
+    let mut left: usize = 0;
+    for _ in 0..64 {
+        match source.take(&mut piece) {
+            Ok(count) => left = left.saturating_add(count),
+            Err(Failed) => return 0,
+        }
+    }
+    left
+}
+
+/// Twelve lines of eight bytes, of whose replies the one with this number fails. The source gives a piece of so many bytes at once, and
+/// has to have so many left when it comes to that reply.
+fn order(
+    rt: &impl Abort,
+    alloc: Global,
+    piece: usize,
+    fails: u64,
+    left: usize,
+) -> Result<(), Fail> {
+    let mut script = Vec::new(alloc);
+    for _ in 0..12 {
+        script.extend_from_slice(b"0: STEP\n")?;
+    }
+    let mut source = MemSource::new(script, piece.max(1), None);
+    let mut sink = MemSink::new(alloc, 64, Some(fails));
+    let status = run_over(alloc, b"pages", &mut source, &mut sink)?;
+    assert_eq!(rt; status, 4);
+    assert_eq!(rt; left_in(&mut source), left);
+    Ok(())
+}
+
+/// Each line is answered before the next one is taken: where a reply fails, the source hasn't been asked for more. Of lines that the
+/// source gave at once, all are answered before it is asked again.
+#[test]
+fn replies_before_lines(rt: HostRuntime) -> Result<(), Fail> {
+    order(&rt, rt.alloc(), 8, 1, 88)?;
+    order(&rt, rt.alloc(), 8, 2, 80)?;
+    order(&rt, rt.alloc(), 8, 12, 0)?;
+    order(&rt, rt.alloc(), 16, 3, 64)?;
+    order(&rt, rt.alloc(), 24, 3, 72)?;
+    order(&rt, rt.alloc(), 24, 4, 48)
+}
+
+/// A transaction that reads and writes all pages, and reads them again.
+#[test]
+fn all_pages(rt: HostRuntime) -> Result<(), Fail> {
+    let mut script = b"1: BEGIN\n".to_vec(rt.alloc())?;
+    let mut replies = b"1: ok\n".to_vec(rt.alloc())?;
+    for page in 2..17_u32 {
+        let lines = format!(in rt.alloc();
+            "1: READ {page}\n1: WRITE {page} {page}\n1: READ {page}\n"
+        )?;
+        script.extend_from_slice(lines.as_bytes())?;
+        let told = format!(in rt.alloc(); "1: byte 0\n1: ok\n1: byte {page}\n")?;
+        replies.extend_from_slice(told.as_bytes())?;
+    }
+    script.extend_from_slice(b"1: COMMIT\n")?;
+    replies.extend_from_slice(b"1: commit 1\n")?;
+    let (status, sink) = run(rt.alloc(), b"pages", script, 4096, None, None)?;
+    assert_eq!(rt; sink.written(), replies.as_slice());
+    assert_eq!(rt; status, 0);
+    Ok(())
+}
+
+/// A thousand commits, each of which is read by the next transaction.
+#[test]
+fn a_thousand_commits(rt: HostRuntime) -> Result<(), Fail> {
+    let mut script = Vec::new(rt.alloc());
+    let mut replies = Vec::new(rt.alloc());
+    for commit in 1..1001_u32 {
+        let byte = commit % 256;
+        let lines = format!(in rt.alloc();
+            "7: BEGIN\n7: READ 16\n7: WRITE 16 {byte}\n7: COMMIT\n"
+        )?;
+        script.extend_from_slice(lines.as_bytes())?;
+        let before = (commit - 1) % 256;
+        let told = format!(in rt.alloc(); "7: ok\n7: byte {before}\n7: ok\n7: commit {commit}\n")?;
+        replies.extend_from_slice(told.as_bytes())?;
+    }
+    let (status, sink) = run(rt.alloc(), b"pages", script, 4096, None, None)?;
+    assert_eq!(rt; sink.written(), replies.as_slice());
+    assert_eq!(rt; status, 0);
+    Ok(())
+}
+
+/// More lines than 16 bits count, of which the last is refused.
+#[test]
+fn many_lines(rt: HostRuntime) -> Result<(), Fail> {
+    let mut script = Vec::new(rt.alloc());
+    let mut replies = Vec::new(rt.alloc());
+    for _ in 0..70_000 {
+        script.extend_from_slice(b"0: STEP\n")?;
+        replies.extend_from_slice(b"0: idle\n")?;
+    }
+    script.extend_from_slice(b"0: STOP\n")?;
+    replies.extend_from_slice(b"script refused at line 70001\n")?;
+    let (status, sink) = run(rt.alloc(), b"pages", script, 65_536, None, None)?;
+    assert_eq!(rt; sink.written(), replies.as_slice());
+    assert_eq!(rt; status, 1);
     Ok(())
 }

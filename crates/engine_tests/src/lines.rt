@@ -5,7 +5,8 @@
 ghost use Rattle.std.specs.Prelude.{◌≡◌, ◌≤◌, [], IfOk, All, true};
 ghost use Rattle.page_lines.specs.Range.{IsInRange};
 
-use acts::{Act, InMemory, Told, engine_of_zeros, play};
+use acts::{Act, Told, play};
+use page_runs::{InMemory, engine_of_zeros};
 use page_face::Engine;
 use page_lines::Raw;
 use engine_spec::{Ckpt, Logs, Receipt};
@@ -90,8 +91,8 @@ pub fn answered_by<E: Engine<Raw>>(
     engine: &mut E,
     rows: &[(Act, Told)],
 ) -> Result<(), AllocError>
-    requires free { E.free engine.old }
-    requires pages { 16 ≤ (E.seen engine.old).size }
+    requires always { (E.state engine.old).always_begins ≡ true }
+    requires pages { 16 ≤ (E.state engine.old).size }
     requires live { E.live engine.old [] }
 {
     let acts = acts_of(rt, alloc, rows)?;
