@@ -6,10 +6,10 @@ ghost use Rattle.std.specs.Prelude.{◌≡◌, ◌≤◌, [], IfOk, All, true};
 ghost use Rattle.page_lines.specs.Range.{IsInRange};
 
 use acts::{Act, Told, play};
-use page_runs::{InMemory, engine_of_zeros};
+use engine_spec::{Ckpt, Logs, Receipt};
 use page_face::Engine;
 use page_lines::Raw;
-use engine_spec::{Ckpt, Logs, Receipt};
+use page_runs::{InMemory, engine_of_zeros};
 use std::alloc::{AllocError, Global};
 use std::process::Abort;
 use std::test::Fail;
