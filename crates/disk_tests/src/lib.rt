@@ -11,7 +11,3 @@ mod real_files;
 mod room;
 #[cfg(test)]
 mod streams;
-#[cfg(test)]
-mod watched;
-#[cfg(test)]
-mod watched_runs;
