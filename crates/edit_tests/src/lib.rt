@@ -7,3 +7,5 @@
 mod calls;
 #[cfg(test)]
 mod pages;
+#[cfg(test)]
+mod worn;
