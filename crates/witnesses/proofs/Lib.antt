@@ -1,2 +1,6 @@
 mod Shelves
 mod Fetched
+mod OwnNumbers
+mod SharedCommits
+mod SharedPins
+mod SharedMoves
