@@ -62,23 +62,26 @@ theirs_came means old new pins waiting number live is none theirs commits since 
       barred = barred;
     }
 
--- what waited, if anything did, is gone, and the engine in memory is as it was
-pub none_came : {M : Type 0} (means : Meaning M) (old new : Shared M) → new.plain ≡ old.plain → new.waiting ≡ None
+-- what waited, if anything did, is gone, and the engine in memory tells what it told
+pub none_came : {M : Type 0} (means : Meaning M) (old new : Shared M) → state_of new.plain ≡ state_of old.plain → new.waiting ≡ None
     → new.theirs.items ≡ old.theirs.items → new.commits ≡ old.commits → new.since ≡ old.since → new.readers ≡ old.readers
-    → new.barred ≡ old.barred → TheirsCame means old new
-none_came means old new plain none theirs commits since readers barred = record {
-  later = rw (plain, theirs, since, readers) (later_same (shared_state old));
+    → new.barred ≡ old.barred → KeepsPins PlainLive plain_map old.plain new.plain
+    → ((first : PageMap) → SharedRuns (means.sound first) (means.leads first) first old
+    → PlainRuns (means.sound first) (means.leads first) first new.plain)
+    → TheirsCame means old new
+none_came means old new same none theirs commits since readers barred keeps runs = record {
+  later = rw (same, theirs, since, readers) (later_same (shared_state old));
   pins = record {
     hold = λ held one. record {
-      plain = rw (none, plain) (without_waiting old.waiting old.plain held one.plain);
+      plain = rw none (keeps.hold held (without_waiting old.waiting old.plain held one.plain));
       fit = rw none tt;
-      commits = rw (commits, plain) one.commits;
+      commits = omega (arith, commits, one.commits, ap (λ (s : EngineState). length s.history) same);
       theirs = rw (theirs, commits) one.theirs;
       since = rw (since, commits) one.since;
     };
-    maps = λ pin held. ap (λ (p : PlainState). plain_map p pin) plain;
+    maps = λ pin held. keeps.maps pin (held_inside old pin held);
   };
-  runs = λ first run. record { plain = rw plain run.plain; good = rw none tt };
+  runs = λ first run. record { plain = runs first run; good = rw none tt };
   none = none;
   barred = barred;
 }
