@@ -47,13 +47,14 @@ in_either (x ∷ xs) ys n there = elim (contains_cases x n (xs ++ ys) there) [
 -- one's own commits are numbered from 1
 own_there : (theirs : List ℕ) (count number : ℕ) → Contains (numbers_but theirs count) number → (1 ≤ number) × (number ≤ count)
 own_there theirs zero number there = absurd (let low = there.1 in omega arith)
-own_there theirs (suc count) number there = at (list_any (λ n. n == suc count) theirs) there
+own_there theirs (suc count) number there = at (list_any (λ n. n == suc count) theirs) (own_there theirs count number) there
   where
-    at : (any : Bool) → Contains (if any then numbers_but theirs count else numbers_but theirs count ++ suc count ∷ []) number
+    at : (any : Bool) → (Contains (numbers_but theirs count) number → (1 ≤ number) × (number ≤ count))
+        → Contains (if any then numbers_but theirs count else numbers_but theirs count ++ suc count ∷ []) number
         → (1 ≤ number) × (number ≤ suc count)
-    at true there = (let one = own_there theirs count number there in (omega (arith, one.0), omega (arith, one.1)))
-    at false there = elim (in_either (numbers_but theirs count) (suc count ∷ []) number there) [
-      | inl before ↦ (let one = own_there theirs count number before in (omega (arith, one.0), omega (arith, one.1)))
+    at true before there = (let one = before there in (omega (arith, one.0), omega (arith, one.1)))
+    at false before there = elim (in_either (numbers_but theirs count) (suc count ∷ []) number there) [
+      | inl early ↦ (let one = before early in (omega (arith, one.0), omega (arith, one.1)))
       | inr last ↦ elim (contains_cases (suc count) number [] last) [
         | inl same ↦ (omega arith, omega arith)
         | inr none ↦ absurd (let low = none.1 in omega arith)

@@ -3,7 +3,7 @@
 //
 // Its invariant (`SharedLive`): the pins that hold, and that of a transaction that waits, hold in the engine in memory; what waits fits;
 // `commits` is the length of the history; the commits of others are among it, and the log holds a part of it.
-ghost use Rattle.std.specs.Prelude.{◌≡◌, ℕ, true, false, vec_len, List, [], ◌∷◌, ◌++◌, MatchOption, Option, IfSome};
+ghost use Rattle.std.specs.Prelude.{◌≡◌, ℕ, ◌<◌, true, false, vec_len, List, [], ◌∷◌, ◌++◌, MatchOption, Option, IfSome};
 ghost use Rattle.std.specs.Vec.{vec_capacity};
 ghost use Rattle.page_spec.specs.PageMap.{PageMap};
 ghost use Rattle.engine_spec.specs.declared.pins.Pin.{Pin as PinValue};
