@@ -1,5 +1,7 @@
 // A log's header from before an opening, written over and synced away, and the next one on its way: what is accepted of the images.
 // A plain program in another language summed headers and frame.
+ghost use Rattle.std.specs.Prelude.{◌≡◌, false};
+
 use crash_witness::outlasts;
 use disk_face::{Bytes, Disk, Failed, File, Piece};
 use disk_mem::MemDisk;
@@ -44,7 +46,9 @@ fn between_headers(alloc: Global) -> Result<MemDisk, Failed> {
 }
 
 /// What is accepted of log 2 of a disk whose files are still to be named.
-fn accept(alloc: Global, mut disk: MemDisk) -> Result<Accepted, ScanFault> {
+fn accept(alloc: Global, mut disk: MemDisk) -> Result<Accepted, ScanFault>
+    requires { disk.attached ≡ false }
+{
     if disk.attach(b"db").is_err() {
         return Err(ScanFault::Disk);
     }
