@@ -130,27 +130,55 @@ static long long now(void) {
     return time.tv_sec * 1000000000LL + time.tv_nsec;
 }
 
-static void fill(void) {
-    for (unsigned i = 0; i < CELLS; i++) put_cell(next() % (i + 1), cells[i]);
-}
+static volatile uint32_t seen;
 
-static void empty(void) {
-    for (unsigned i = CELLS; i > KEPT; i--) take_cell(next() % i);
-}
-
-static void swap(void) {
-    for (unsigned i = 0; i < CELLS; i++) {
-        take_cell(next() % KEPT);
-        put_cell(next() % KEPT, cells[i]);
-    }
-}
-
-static void measure(const char *what, void (*edits)(void)) {
+/* Each edit is timed alone, and the page was looked at before. */
+static long long time_put(unsigned k, unsigned i) {
+    seen = sum_cells();
     long long start = now();
-    edits();
-    printf("%s %lld ", what, now() - start);
-    printf("%u\n", sum_cells());
+    put_cell(k, cells[i]);
+    return now() - start;
 }
+
+static long long time_take(unsigned k) {
+    seen = sum_cells();
+    long long start = now();
+    take_cell(k);
+    return now() - start;
+}
+
+static long long fill(void) {
+    long long spent = 0;
+    for (unsigned i = 0; i < CELLS; i++) spent += time_put(next() % (i + 1), i);
+    return spent;
+}
+
+static long long empty(void) {
+    long long spent = 0;
+    for (unsigned i = CELLS; i > KEPT; i--) spent += time_take(next() % i);
+    return spent;
+}
+
+static long long swap(void) {
+    long long spent = 0;
+    for (unsigned i = 0; i < CELLS; i++) {
+        spent += time_take(next() % KEPT);
+        spent += time_put(next() % KEPT, i);
+    }
+    return spent;
+}
+
+/* What looking at the clock costs. */
+static long long nothing(void) {
+    long long spent = 0;
+    for (unsigned i = 0; i < CELLS; i++) {
+        long long start = now();
+        spent += now() - start;
+    }
+    return spent;
+}
+
+static void tell(const char *what, long long spent) { printf("%s %lld %u\n", what, spent, sum_cells()); }
 
 int main(int words, char **word) {
     unsigned rounds = words > 1 ? atoi(word[1]) : 1;
@@ -160,8 +188,9 @@ int main(int words, char **word) {
     }
     for (unsigned round = 0; round < rounds; round++) {
         start_page();
-        measure("put", fill);
-        measure("take", empty);
-        measure("swap", swap);
+        tell("put", fill());
+        tell("take", empty());
+        tell("swap", swap());
+        tell("none", nothing());
     }
 }
