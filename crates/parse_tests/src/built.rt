@@ -1,4 +1,4 @@
-// Texts that are built from one piece again and again: the depth of 100, 2,000 columns, and long lists.
+// Texts that are built from one piece again and again: the depth of 100, and 2,000 columns.
 use crate::note::Note;
 use crate::rows::{Kind, is_told};
 use std::alloc::{AllocError, Global};
@@ -39,15 +39,6 @@ fn is(
     is_told(rt, alloc, kind, text.as_slice(), expected.as_slice())
 }
 
-fn is_read(
-    rt: &impl Abort,
-    alloc: Global,
-    text: &Pieces<'_>,
-    expected: &Pieces<'_>,
-) -> Result<(), AllocError> {
-    is(rt, alloc, Kind::Statement, text, expected)
-}
-
 fn nested<'a>(
     front: &'a [u8],
     open: &'a [u8],
@@ -69,30 +60,40 @@ fn plain(text: &[u8]) -> Pieces<'_> {
 }
 
 #[test]
-fn a_hundred_levels_are_taken(rt: HostRuntime) -> Result<(), Fail> {
-    let alloc = rt.alloc();
-    let brackets = nested(b"SELECT ", b"(", 100, b"1", b")");
-    is_read(&rt, alloc, &brackets, &plain(b"select 1"))?;
-    let nots = nested(b"SELECT ", b"NOT ", 100, b"a", b"");
-    let read_nots = nested(b"select ", b"(!", 100, b"a", b")");
-    is_read(&rt, alloc, &nots, &read_nots)?;
-    let sums = nested(b"SELECT a", b"+1", 100, b"", b"");
-    let read_sums = nested(b"select ", b"(", 100, b"a", b"+1)");
-    is_read(&rt, alloc, &sums, &read_sums)?;
-    Ok(())
-}
-
-#[test]
-fn the_next_level_is_refused(rt: HostRuntime) -> Result<(), Fail> {
-    let alloc = rt.alloc();
-    let brackets = nested(b"SELECT ", b"(", 101, b"1", b")");
-    is_read(&rt, alloc, &brackets, &plain(b"syntax 107"))?;
-    let nots = nested(b"SELECT ", b"NOT ", 101, b"a", b"");
-    is_read(&rt, alloc, &nots, &plain(b"syntax 407"))?;
-    let minus = nested(b"SELECT ", b"-", 101, b"1", b"");
-    is_read(&rt, alloc, &minus, &plain(b"syntax 108"))?;
-    let sums = nested(b"SELECT a", b"+1", 101, b"", b"");
-    is_read(&rt, alloc, &sums, &plain(b"syntax 208"))?;
+fn a_hundred_levels_are_taken_and_no_more(rt: HostRuntime) -> Result<(), Fail> {
+    let rows = [
+        (
+            nested(b"SELECT ", b"(", 100, b"1", b")"),
+            plain(b"select 1"),
+        ),
+        (
+            nested(b"SELECT ", b"(", 101, b"1", b")"),
+            plain(b"syntax 107"),
+        ),
+        (
+            nested(b"SELECT ", b"NOT ", 100, b"a", b""),
+            nested(b"select ", b"(!", 100, b"a", b")"),
+        ),
+        (
+            nested(b"SELECT ", b"NOT ", 101, b"a", b""),
+            plain(b"syntax 407"),
+        ),
+        (
+            nested(b"SELECT a", b"+1", 100, b"", b""),
+            nested(b"select ", b"(", 100, b"a", b"+1)"),
+        ),
+        (
+            nested(b"SELECT a", b"+1", 101, b"", b""),
+            plain(b"syntax 208"),
+        ),
+        (
+            nested(b"SELECT ", b"-", 101, b"1", b""),
+            plain(b"syntax 108"),
+        ),
+    ];
+    for (text, expected) in rows {
+        is(&rt, rt.alloc(), Kind::Statement, &text, &expected)?;
+    }
     Ok(())
 }
 
@@ -110,29 +111,37 @@ fn within_a_hundred_levels(rt: HostRuntime) -> Result<(), Fail> {
     ];
     for (middle, expected) in rows {
         let text = nested(b"SELECT ", b"(", 100, middle, b"");
-        is_read(&rt, rt.alloc(), &text, &plain(expected))?;
+        is(&rt, rt.alloc(), Kind::Statement, &text, &plain(expected))?;
     }
     Ok(())
 }
 
 #[test]
 fn a_table_has_up_to_2000_columns(rt: HostRuntime) -> Result<(), Fail> {
-    let alloc = rt.alloc();
-    let most = nested(b"CREATE TABLE t(a", b",a", 1999, b")", b"");
-    let expected = nested(b"table t", b" a:b", 2000, b"", b"");
-    is_read(&rt, alloc, &most, &expected)?;
-    let more = nested(b"CREATE TABLE t(a", b",a", 2000, b")", b"");
-    is_read(&rt, alloc, &more, &plain(b"syntax 4014"))?;
-    Ok(())
-}
-
-#[test]
-fn so_has_a_table_of_a_file(rt: HostRuntime) -> Result<(), Fail> {
-    let alloc = rt.alloc();
-    let most = nested(b"CREATE TABLE t(a INT", b",a INT", 1999, b")", b"");
-    let expected = nested(b"usable", b" a:i", 2000, b"", b"");
-    is(&rt, alloc, Kind::Object, &most, &expected)?;
-    let more = nested(b"CREATE TABLE t(a INT", b",a INT", 2000, b")", b"");
-    is(&rt, alloc, Kind::Object, &more, &plain(b"syntax 12014"))?;
+    let rows = [
+        (
+            Kind::Statement,
+            nested(b"CREATE TABLE t(a", b",a", 1999, b")", b""),
+            nested(b"table t", b" a:b", 2000, b"", b""),
+        ),
+        (
+            Kind::Statement,
+            nested(b"CREATE TABLE t(a", b",a", 2000, b")", b""),
+            plain(b"syntax 4014"),
+        ),
+        (
+            Kind::Object,
+            nested(b"CREATE TABLE t(a INT", b",a INT", 1999, b")", b""),
+            nested(b"usable", b" a:i", 2000, b"", b""),
+        ),
+        (
+            Kind::Object,
+            nested(b"CREATE TABLE t(a INT", b",a INT", 2000, b")", b""),
+            plain(b"syntax 12014"),
+        ),
+    ];
+    for (kind, text, expected) in rows {
+        is(&rt, rt.alloc(), kind, &text, &expected)?;
+    }
     Ok(())
 }

@@ -66,12 +66,6 @@ x'1'{Bad@0}
 \xc3{Bad@0}
 ";
 
-#[test]
-fn lexemes_and_places(rt: HostRuntime) -> Result<(), Fail> {
-    all_told(&rt, rt.alloc(), Kind::Lexemes, LEXEMES_AND_PLACES)?;
-    Ok(())
-}
-
 const EACH_WORD: &[u8] = b"AND{And@0}
 AS{As@0}
 CHECK{Check@0}
@@ -136,7 +130,9 @@ __{Other=__@0}
 ";
 
 #[test]
-fn each_word(rt: HostRuntime) -> Result<(), Fail> {
-    all_told(&rt, rt.alloc(), Kind::Lexemes, EACH_WORD)?;
+fn lexemes_of_texts(rt: HostRuntime) -> Result<(), Fail> {
+    for table in [LEXEMES_AND_PLACES, EACH_WORD] {
+        all_told(&rt, rt.alloc(), Kind::Lexemes, table)?;
+    }
     Ok(())
 }

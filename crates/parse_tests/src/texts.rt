@@ -29,12 +29,6 @@ BEGIN;;{syntax 6}
 COMMIT; BEGIN{syntax 8}
 ";
 
-#[test]
-fn transactions(rt: HostRuntime) -> Result<(), Fail> {
-    all_told(&rt, rt.alloc(), Kind::Statement, TRANSACTIONS)?;
-    Ok(())
-}
-
 const NOTHING_AND_OTHER_BYTES: &[u8] = b"{syntax 0}
 ;{syntax 0}
    {syntax 3}
@@ -57,12 +51,6 @@ SELECT $a{syntax 7}
 SELECT a[1]{syntax 8}
 1.5{float 0}
 ";
-
-#[test]
-fn nothing_and_other_bytes(rt: HostRuntime) -> Result<(), Fail> {
-    all_told(&rt, rt.alloc(), Kind::Statement, NOTHING_AND_OTHER_BYTES)?;
-    Ok(())
-}
 
 const CREATE_TABLE: &[u8] =
     b"CREATE TABLE t(a INTEGER PRIMARY KEY, b TEXT NOT NULL, c BLOB, d){table t a:i:key b:t:some c:b d:b}
@@ -105,12 +93,6 @@ CREATE TABLE t(a{syntax 16}
 CREATE {syntax 7}
 ";
 
-#[test]
-fn create_table(rt: HostRuntime) -> Result<(), Fail> {
-    all_told(&rt, rt.alloc(), Kind::Statement, CREATE_TABLE)?;
-    Ok(())
-}
-
 const INDEXES_AND_DROP: &[u8] = b"CREATE INDEX i ON t(a){index i t a}
 CREATE UNIQUE INDEX i ON t(a, \"b c\");{unique index i t a b c}
 CREATE INDEX i ON count(rowid){index i count rowid}
@@ -132,12 +114,6 @@ DROP TABLE t, u{syntax 12}
 DROP TABLE IF EXISTS t{syntax 14}
 DROP TABLE {syntax 11}
 ";
-
-#[test]
-fn indexes_and_drop(rt: HostRuntime) -> Result<(), Fail> {
-    all_told(&rt, rt.alloc(), Kind::Statement, INDEXES_AND_DROP)?;
-    Ok(())
-}
 
 const INSERT: &[u8] = b"INSERT INTO t VALUES (1, 'a', NULL){insert t row 1 'a' null}
 INSERT INTO t(a, b) VALUES (1, 2), (3, 4){insert t a b row 1 2 row 3 4}
@@ -162,12 +138,6 @@ INSERT INTO t VALUES (1.5){float 22}
 INSERT INTO t VALUES (1, 2e3){float 25}
 ";
 
-#[test]
-fn insert(rt: HostRuntime) -> Result<(), Fail> {
-    all_told(&rt, rt.alloc(), Kind::Statement, INSERT)?;
-    Ok(())
-}
-
 const UPDATE_AND_DELETE: &[u8] = b"UPDATE t SET a = 1{update t a:=1}
 UPDATE t SET a = a + 1, b = 'x' WHERE a > 5;{update t a:=(a+1) b:='x' where (a>5)}
 UPDATE t SET a == 1{update t a:=1}
@@ -190,12 +160,6 @@ DELETE FROM t WHERE ;{syntax 20}
 DELETE FROM t WHERE MAX(a) = 1{syntax 20}
 DELETE FROM t WHERE a = .5{float 24}
 ";
-
-#[test]
-fn update_and_delete(rt: HostRuntime) -> Result<(), Fail> {
-    all_told(&rt, rt.alloc(), Kind::Statement, UPDATE_AND_DELETE)?;
-    Ok(())
-}
 
 const SELECT: &[u8] = b"SELECT 1{select 1}
 sElEcT A fRoM T{select A from T/T}
@@ -243,12 +207,6 @@ SELECT 1 OFFSET 1{syntax 9}
 SELECT 1 LIMIT 0 OFFSET 0{select 1 limit 0 offset 0}
 ";
 
-#[test]
-fn select(rt: HostRuntime) -> Result<(), Fail> {
-    all_told(&rt, rt.alloc(), Kind::Statement, SELECT)?;
-    Ok(())
-}
-
 const TABLES_OF_FROM: &[u8] = b"SELECT a FROM t AS u, v w{select a from t/u from v/w}
 SELECT a FROM t JOIN u ON t.a = u.b JOIN v AS w ON 1{select a from t/t from u/u from v/w on (t.a=u.b) on 1}
 SELECT a FROM t, u JOIN v ON 1, w{select a from t/t from u/u from v/v from w/w on 1}
@@ -279,12 +237,6 @@ SELECT 1 FROM a,b,c,d,e,f,g JOIN h ON 1{select 1 from a/a from b/b from c/c from
 SELECT 1 FROM a,b,c,d,e,f,g,h,i{syntax 29}
 SELECT 1 FROM a,b,c,d,e,f,g,h JOIN i ON 1{syntax 30}
 ";
-
-#[test]
-fn tables_of_from(rt: HostRuntime) -> Result<(), Fail> {
-    all_told(&rt, rt.alloc(), Kind::Statement, TABLES_OF_FROM)?;
-    Ok(())
-}
 
 const ORDER_BY_INTEGERS_AND_AGGREGATES: &[u8] = b"SELECT a FROM t ORDER BY 1{syntax 25}
 SELECT a FROM t ORDER BY 1, a{syntax 25}
@@ -319,17 +271,6 @@ SELECT abs(a){syntax 10}
 SELECT t.count(a){syntax 14}
 SELECT COUNT(DISTINCT a){syntax 22}
 ";
-
-#[test]
-fn order_by_integers_and_aggregates(rt: HostRuntime) -> Result<(), Fail> {
-    all_told(
-        &rt,
-        rt.alloc(),
-        Kind::Statement,
-        ORDER_BY_INTEGERS_AND_AGGREGATES,
-    )?;
-    Ok(())
-}
 
 const LEVELS: &[u8] = b"SELECT 1 + 2 * 3 - 4 / 5 % 6{select ((1+(2*3))-((4/5)%6))}
 SELECT 1 - 2 - 3{select ((1-2)-3)}
@@ -380,12 +321,6 @@ SELECT * + 1{syntax 9}
 SELECT = 1{syntax 7}
 SELECT a = = b{syntax 11}
 ";
-
-#[test]
-fn levels(rt: HostRuntime) -> Result<(), Fail> {
-    all_told(&rt, rt.alloc(), Kind::Statement, LEVELS)?;
-    Ok(())
-}
 
 const TERMS: &[u8] = b"SELECT (1 + 2) * 3{select ((1+2)*3)}
 SELECT ((a)){select a}
@@ -439,12 +374,6 @@ SELECT a x'12'{syntax 9}
 SELECT X'00ff' = x'4a4B'{select (`\0\xff`=`JK`)}
 ";
 
-#[test]
-fn terms(rt: HostRuntime) -> Result<(), Fail> {
-    all_told(&rt, rt.alloc(), Kind::Statement, TERMS)?;
-    Ok(())
-}
-
 const TEXTS_OF_TABLES: &[u8] =
     b"CREATE TABLE t(a INTEGER PRIMARY KEY, b TEXT NOT NULL){usable a:i:key b:t:some}
 CREATE TABLE t(a INT, b VARCHAR(10), c CLOB, d BLOB, e, f BIGINT UNSIGNED){usable a:i b:t c:t d:b e:b f:i}
@@ -495,12 +424,6 @@ SELECT 1{syntax 0}
 CREATE TABLE t(a{syntax 16}
 ";
 
-#[test]
-fn texts_of_tables(rt: HostRuntime) -> Result<(), Fail> {
-    all_told(&rt, rt.alloc(), Kind::Object, TEXTS_OF_TABLES)?;
-    Ok(())
-}
-
 const TEXTS_OF_INDEXES: &[u8] = b"CREATE INDEX i ON t(a){index t a}
 CREATE UNIQUE INDEX i ON t(a, b){unique index t a b}
 CREATE INDEX i ON t(a DESC){syntax 22}
@@ -512,7 +435,29 @@ CREATE INDEX i ON t(a,b,c,d,e,f,g,h,i,j,k,l,m,n,o,p,q){syntax 51}
 ";
 
 #[test]
-fn texts_of_indexes(rt: HostRuntime) -> Result<(), Fail> {
-    all_told(&rt, rt.alloc(), Kind::Object, TEXTS_OF_INDEXES)?;
+fn statements(rt: HostRuntime) -> Result<(), Fail> {
+    for table in [
+        TRANSACTIONS,
+        NOTHING_AND_OTHER_BYTES,
+        CREATE_TABLE,
+        INDEXES_AND_DROP,
+        INSERT,
+        UPDATE_AND_DELETE,
+        SELECT,
+        TABLES_OF_FROM,
+        ORDER_BY_INTEGERS_AND_AGGREGATES,
+        LEVELS,
+        TERMS,
+    ] {
+        all_told(&rt, rt.alloc(), Kind::Statement, table)?;
+    }
+    Ok(())
+}
+
+#[test]
+fn texts_of_objects(rt: HostRuntime) -> Result<(), Fail> {
+    for table in [TEXTS_OF_TABLES, TEXTS_OF_INDEXES] {
+        all_told(&rt, rt.alloc(), Kind::Object, table)?;
+    }
     Ok(())
 }

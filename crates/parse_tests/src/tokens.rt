@@ -41,12 +41,6 @@ xx'12'{w0-2 t2-6}
 x{w0-1}
 ";
 
-#[test]
-fn words_quotes_and_blobs(rt: HostRuntime) -> Result<(), Fail> {
-    all_told(&rt, rt.alloc(), Kind::Tokens, WORDS_QUOTES_AND_BLOBS)?;
-    Ok(())
-}
-
 const NUMBERS_SIGNS_AND_OTHER_BYTES: &[u8] = b"1{n0-1}
 1.{n0-2}
 .5{n0-2}
@@ -95,7 +89,9 @@ a\xc3\xa4{bad 1}
 ";
 
 #[test]
-fn numbers_signs_and_other_bytes(rt: HostRuntime) -> Result<(), Fail> {
-    all_told(&rt, rt.alloc(), Kind::Tokens, NUMBERS_SIGNS_AND_OTHER_BYTES)?;
+fn tokens_of_texts(rt: HostRuntime) -> Result<(), Fail> {
+    for table in [WORDS_QUOTES_AND_BLOBS, NUMBERS_SIGNS_AND_OTHER_BYTES] {
+        all_told(&rt, rt.alloc(), Kind::Tokens, table)?;
+    }
     Ok(())
 }

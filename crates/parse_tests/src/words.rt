@@ -38,12 +38,6 @@ DROP TABLE 1{syntax 11}
 DROP TABLE 't'{syntax 11}
 ";
 
-#[test]
-fn words_that_are_no_names(rt: HostRuntime) -> Result<(), Fail> {
-    all_told(&rt, rt.alloc(), Kind::Statement, WORDS_THAT_ARE_NO_NAMES)?;
-    Ok(())
-}
-
 const WORDS_THAT_ARE_NAMES_IN_QUOTES: &[u8] = b"DROP TABLE \"AND\"{drop AND}
 DROP TABLE \"CHECK\"{drop CHECK}
 DROP TABLE \"FROM\"{drop FROM}
@@ -53,17 +47,6 @@ DROP TABLE \"TABLE\"{drop TABLE}
 DROP TABLE \"VALUES\"{drop VALUES}
 DROP TABLE \"WHERE\"{drop WHERE}
 ";
-
-#[test]
-fn words_that_are_names_in_quotes(rt: HostRuntime) -> Result<(), Fail> {
-    all_told(
-        &rt,
-        rt.alloc(),
-        Kind::Statement,
-        WORDS_THAT_ARE_NAMES_IN_QUOTES,
-    )?;
-    Ok(())
-}
 
 const WORDS_THAT_ARE_NAMES: &[u8] = b"DROP TABLE ASC{drop ASC}
 DROP TABLE AUTOINCREMENT{drop AUTOINCREMENT}
@@ -98,7 +81,13 @@ DROP TABLE rowid{drop rowid}
 ";
 
 #[test]
-fn words_that_are_names(rt: HostRuntime) -> Result<(), Fail> {
-    all_told(&rt, rt.alloc(), Kind::Statement, WORDS_THAT_ARE_NAMES)?;
+fn words_as_names(rt: HostRuntime) -> Result<(), Fail> {
+    for table in [
+        WORDS_THAT_ARE_NO_NAMES,
+        WORDS_THAT_ARE_NAMES_IN_QUOTES,
+        WORDS_THAT_ARE_NAMES,
+    ] {
+        all_told(&rt, rt.alloc(), Kind::Statement, table)?;
+    }
     Ok(())
 }
