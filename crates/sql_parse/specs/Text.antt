@@ -38,11 +38,18 @@ IsRead s (Ok found) = found ≡ s
 IsRead s (Err fault.Memory) = Unit {0}
 IsRead s (Err _) = ⊥
 
--- ---- what the code computes
-
+-- what a text is told that goes wrong at this place, at a number with a point or exponent or at something else
 abbrev pub fault_of : Bool → ℕ → ParseFault
 fault_of true at = fault.Float at
 fault_of false at = fault.Syntax at
+
+-- the answer is this fault, unless memory ran out
+abbrev pub IsRefused : {A : Type 0} → ParseFault → Result A ParseFault → Type 0
+IsRefused f (Ok s) = ⊥
+IsRefused f (Err fault.Memory) = Unit {0}
+IsRefused f (Err found) = found ≡ f
+
+-- ---- what the code computes
 
 -- the fault of lexemes at these places, that go wrong at the first of the last ones
 abbrev pub fault_at : List ℕ → List ℕ → List Lexeme → List Lexeme → ParseFault

@@ -4,12 +4,11 @@ ghost use Rattle.grammars.specs.Reading.{read};
 ghost use Rattle.sql_grammar.specs.Statement as spec;
 ghost use Rattle.sql_exprs.specs.Gives.{Gives};
 
-use crate::lists::{filter, names, rows, sets};
-use crate::statement::ended;
 use disk_face::Txt;
 use sql_exprs::{ParseError, after, expect, expect_name};
 use sql_grammar::Statement;
 use sql_lexemes::{Lexeme, Symbol};
+use sql_select::{ended, filter, names, rows, sets};
 use sql_tables::{index, table};
 use sqlite_items::Items;
 use std::alloc::Global;

@@ -3,8 +3,6 @@
 
 mod change;
 mod created;
-mod lists;
-mod select;
 mod statement;
 mod text;
 

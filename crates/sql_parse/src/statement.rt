@@ -6,25 +6,15 @@ ghost use Rattle.sql_grammar.specs.Statement as spec;
 ghost use Rattle.sql_exprs.specs.Gives.{Gives};
 
 use crate::change::{created, delete, dropped, insert, update};
-use crate::select::select;
 use engine_spec::Mode;
 use sql_exprs::{ParseError, after, after_word, after_word_if, expect};
 use sql_grammar::Statement;
 use sql_lexemes::{Lexeme, Symbol, Word};
+use sql_select::{ended, select};
 use std::alloc::Global;
 
 /// Whether a statement begins a CONCURRENT transaction: not yet.
 const TAKES_CONCURRENT: bool = false;
-
-#[tactic(auto, unfolding(sql_grammar::specs::Statement::ended))]
-pub fn ended(statement: Statement, lexemes: &[Lexeme]) -> (Statement, &[Lexeme])
-    ensures { read (spec.ended statement) lexemes.now ≡ Ok (result.0, result.1.now) }
-{
-    match after(Symbol::Semicolon, lexemes) {
-        Some(rest) => (statement, rest),
-        None => (statement, lexemes),
-    }
-}
 
 /// The end of a statement on transactions.
 #[tactic(auto, unfolding(sql_grammar::specs::Statement::closed))]

@@ -1,5 +1,5 @@
 // From a text to its statement, or to the place where it goes wrong.
-ghost use Rattle.std.specs.Prelude.{◌≡◌, ◌<◌, ◌^◌, ◌-◌, length, get_or, IfOk, IfErr, Ok};
+ghost use Rattle.std.specs.Prelude.{◌≡◌, ℕ, Bool, ◌<◌, ◌^◌, ◌-◌, length, get_or, IfOk, IfErr, Ok};
 ghost use Rattle.grammars.specs.Grammar.{Derives};
 ghost use Rattle.grammars.specs.Exact.{read_all};
 ghost use Rattle.sql_lexemes.specs.Lexemes as lexemes_are;
@@ -138,6 +138,8 @@ pub fn parse(alloc: Global, text: &[u8]) -> Result<Statement, ParseFault>
     ensures only { (s : statements.Statement) → Derives statement_grammar (lexemes_are.lexemes_of text.now) s → spec.IsRead s result }
     // What is refused goes wrong there.
     ensures fault { IfErr result (λ f. spec.IsFault statement_grammar text.now f) }
+    // Each text that goes wrong is refused, at that place and with that kind of fault.
+    ensures refused { (at : ℕ) → (float : Bool) → spec.GoesWrongAt statement_grammar text.now at float → spec.IsRefused (spec.fault_of float at) result }
 {
     let all = lexemes_of(alloc, text)?;
     read_statement(alloc, text, &all)
@@ -153,6 +155,8 @@ pub fn parse_create(alloc: Global, text: &[u8]) -> Result<Created, ParseFault>
     ensures only { (s : texts.Created) → Derives created_grammar (lexemes_are.lexemes_of text.now) s → spec.IsRead s result }
     // What is refused goes wrong there.
     ensures fault { IfErr result (λ f. spec.IsFault created_grammar text.now f) }
+    // Each text that goes wrong is refused, at that place and with that kind of fault.
+    ensures refused { (at : ℕ) → (float : Bool) → spec.GoesWrongAt created_grammar text.now at float → spec.IsRefused (spec.fault_of float at) result }
 {
     let all = lexemes_of(alloc, text)?;
     read_object(alloc, text, &all)

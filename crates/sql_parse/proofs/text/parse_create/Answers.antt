@@ -1,7 +1,7 @@
 -- The one theorem on all grammars, at this one.
 use Rattle.sql_grammar.specs.Created.{created_grammar}
 use Rattle.sql_grammar.proofs.Statements.{created_text_decides, created_text_ends}
-use Rattle.sql_parse.proofs.Whole.{text_derived, text_only, text_fault}
+use Rattle.sql_parse.proofs.Whole.{text_derived, text_only, text_fault, text_refused}
 use Rattle.sql_parse.proofs.text.parse_create.Goals as goal
 
 pub returns-clause-derived : goal.returns-clause-derived
@@ -15,3 +15,7 @@ returns-clause-only c =
 pub returns-clause-fault : goal.returns-clause-fault
 returns-clause-fault c =
     text_fault created_grammar created_text_decides created_text_ends c.args.text.now c.in_ok-all.all.lexemes c.in_ok-all.all.places c.in_ok-all.ensures.lexemes c.in_ok-all.ensures.places c.read_object.result c.read_object.ensures
+
+pub returns-clause-refused : goal.returns-clause-refused
+returns-clause-refused c =
+    text_refused created_grammar created_text_decides created_text_ends c.args.text.now c.in_ok-all.all.lexemes c.in_ok-all.all.places c.in_ok-all.ensures.lexemes c.in_ok-all.ensures.places c.read_object.result c.read_object.ensures
