@@ -29,7 +29,7 @@ use Rattle.acts.specs.declared.seats.Seat.{Seat}
 use Rattle.acts.specs.declared.seats.State.{State}
 use Rattle.acts.specs.declared.seats.State.TheVariants.{Out, Open, Refused}
 use Rattle.acts.specs.declared.seats.Transaction.{Transaction}
-use Rattle.acts.specs.Pagers.{Refuses, Acts, BeginActs, ReadActs, ReadOpen, WriteActs, CommitActs, CommitOpen, RollbackActs, StepActs, Copies, Grew, EndsAll, Plays, pins_of, state_of, submitted_of}
+use Rattle.acts.specs.Pagers.{RefusesLines, Acts, BeginActs, ReadActs, ReadOpen, WriteActs, CommitActs, CommitOpen, RollbackActs, StepActs, Copies, Grew, EndsAll, Plays, pins_of, seat_state, submitted_of}
 use Rattle.engine_spec.specs.Change.{image_of}
 
 -- What was promised for some openings is promised for fewer.
@@ -51,8 +51,8 @@ accepts_under opened opened_then keeps before asked (At number) after accepts = 
 }
 
 refuses_under : (opened opened_then : Opening → Type 0) → ((one : Opening) → opened one → opened_then one) → (before : EngineState)
-    (asked : Submitted) (after : EngineState) → Refuses opened_then before asked fault.Disk after
-    → Refuses opened before asked fault.Disk after
+    (asked : Submitted) (after : EngineState) → RefusesLines opened_then before asked fault.Disk after
+    → RefusesLines opened before asked fault.Disk after
 refuses_under opened opened_then keeps before asked after (clear, rose, inl read) = (clear, rose, inl read)
 refuses_under opened opened_then keeps before asked after (clear, rose, inr stops) = (
   clear,
@@ -98,7 +98,7 @@ pub acts_under : (opened opened_then : Opening → Type 0) (old new : EngineStat
     → Acts (record { opened = opened_then; old = old; new = new; map_before = maps; map_after = maps_then }) before act told after
     → Acts (record { opened = opened; old = old; new = new; map_before = maps; map_after = maps_then }) before act told after
 acts_under opened opened_then old new maps maps_then before (act.Begin session) told after keeps acts =
-    by_state (state_of before session) acts
+    by_state (seat_state before session) acts
   where
     by_state : (state : State)
         → BeginActs (record { opened = opened_then; old = old; new = new; map_before = maps; map_after = maps_then }) session before after told state
@@ -118,7 +118,7 @@ acts_under opened opened_then old new maps maps_then before (act.Begin session) 
     by_state (Open transaction) same = same
     by_state (Refused pin) same = same
 acts_under opened opened_then old new maps maps_then before (act.Read session page) told after keeps acts =
-    by_state (state_of before session) acts
+    by_state (seat_state before session) acts
   where
     by_image : (transaction : Transaction) (image : Option (List ℕ))
         → ReadOpen (record { opened = opened_then; old = old; new = new; map_before = maps; map_after = maps_then }) session page before after told transaction image
@@ -136,7 +136,7 @@ acts_under opened opened_then old new maps maps_then before (act.Read session pa
     by_state (Open transaction) read = by_image transaction (image_of transaction.changed page) read
     by_state (Refused pin) same = same
 acts_under opened opened_then old new maps maps_then before (act.Write session page byte) told after keeps acts =
-    by_state (state_of before session) acts
+    by_state (seat_state before session) acts
   where
     by_state : (state : State)
         → WriteActs (record { opened = opened_then; old = old; new = new; map_before = maps; map_after = maps_then }) session page byte before after told state
@@ -145,7 +145,7 @@ acts_under opened opened_then old new maps maps_then before (act.Write session p
     by_state (Open transaction) write = write
     by_state (Refused pin) same = same
 acts_under opened opened_then old new maps maps_then before (act.Commit session) told after keeps acts =
-    by_state (state_of before session) acts
+    by_state (seat_state before session) acts
   where
     by_told : (transaction : Transaction) (told : Told)
         → CommitOpen (record { opened = opened_then; old = old; new = new; map_before = maps; map_after = maps_then }) session before after transaction told
@@ -175,7 +175,7 @@ acts_under opened opened_then old new maps maps_then before (act.Commit session)
     by_state (Open transaction) commit = by_told transaction told commit
     by_state (Refused pin) same = same
 acts_under opened opened_then old new maps maps_then before (act.Rollback session) told after keeps acts =
-    by_state (state_of before session) acts
+    by_state (seat_state before session) acts
   where
     by_state : (state : State)
         → RollbackActs (record { opened = opened_then; old = old; new = new; map_before = maps; map_after = maps_then }) session before after told state
@@ -345,7 +345,7 @@ never_stops : (before : EngineState) (stop : Stop) (after : Option TwoLogs) → 
 never_stops before stop after none stops = rw none at stops
 
 -- a commit that a disk barred, which may have switched the logs where there are some
-goes_barred : (opened : Opening → Type 0) (mid new : EngineState) (asked : Submitted) → Refuses opened mid asked fault.Disk new → GoesOn mid new
+goes_barred : (opened : Opening → Type 0) (mid new : EngineState) (asked : Submitted) → RefusesLines opened mid asked fault.Disk new → GoesOn mid new
 goes_barred opened mid new asked (clear, rose, inl read) =
     goes_but mid new mid.stopped new.faults mid.logs mid.readers mid.disk read rose.later (λ none. none)
 goes_barred opened mid new asked (clear, rose, inr stops) =
@@ -361,7 +361,7 @@ pub acts_go : (opened : Opening → Type 0) (old new : EngineState) (maps maps_t
     (before : List Seat) (act : Act) (told : Told) (after : List Seat)
     → Acts (record { opened = opened; old = old; new = new; map_before = maps; map_after = maps_then }) before act told after
     → GoesOn old new
-acts_go opened old new maps maps_then before (act.Begin session) told after acts = by_state (state_of before session) acts
+acts_go opened old new maps maps_then before (act.Begin session) told after acts = by_state (seat_state before session) acts
   where
     by_state : (state : State)
         → BeginActs (record { opened = opened; old = old; new = new; map_before = maps; map_after = maps_then }) session before after told state
@@ -372,7 +372,7 @@ acts_go opened old new maps maps_then before (act.Begin session) told after acts
         (goes_later begun new then)
     by_state (Open transaction) same = goes_equal old new same.2
     by_state (Refused pin) same = goes_equal old new same.2
-acts_go opened old new maps maps_then before (act.Read session page) told after acts = by_state (state_of before session) acts
+acts_go opened old new maps maps_then before (act.Read session page) told after acts = by_state (seat_state before session) acts
   where
     by_image : (transaction : Transaction) (image : Option (List ℕ))
         → ReadOpen (record { opened = opened; old = old; new = new; map_before = maps; map_after = maps_then }) session page before after told transaction image
@@ -387,7 +387,7 @@ acts_go opened old new maps maps_then before (act.Read session page) told after 
     by_state Out same = goes_equal old new same.2
     by_state (Open transaction) read = by_image transaction (image_of transaction.changed page) read
     by_state (Refused pin) same = goes_equal old new same.2
-acts_go opened old new maps maps_then before (act.Write session page byte) told after acts = by_state (state_of before session) acts
+acts_go opened old new maps maps_then before (act.Write session page byte) told after acts = by_state (seat_state before session) acts
   where
     by_state : (state : State)
         → WriteActs (record { opened = opened; old = old; new = new; map_before = maps; map_after = maps_then }) session page byte before after told state
@@ -395,7 +395,7 @@ acts_go opened old new maps maps_then before (act.Write session page byte) told 
     by_state Out same = goes_equal old new same.2
     by_state (Open transaction) write = goes_equal old new write.2
     by_state (Refused pin) same = goes_equal old new same.2
-acts_go opened old new maps maps_then before (act.Commit session) told after acts = by_state (state_of before session) acts
+acts_go opened old new maps maps_then before (act.Commit session) told after acts = by_state (seat_state before session) acts
   where
     by_told : (transaction : Transaction) (told : Told)
         → CommitOpen (record { opened = opened; old = old; new = new; map_before = maps; map_after = maps_then }) session before after transaction told
@@ -426,7 +426,7 @@ acts_go opened old new maps maps_then before (act.Commit session) told after act
     by_state Out same = goes_equal old new same.2
     by_state (Open transaction) commit = by_told transaction told commit
     by_state (Refused pin) same = goes_equal old new same.2
-acts_go opened old new maps maps_then before (act.Rollback session) told after acts = by_state (state_of before session) acts
+acts_go opened old new maps maps_then before (act.Rollback session) told after acts = by_state (seat_state before session) acts
   where
     by_state : (state : State)
         → RollbackActs (record { opened = opened; old = old; new = new; map_before = maps; map_after = maps_then }) session before after told state

@@ -37,8 +37,8 @@ use Rattle.acts.specs.declared.seats.Seat.{Seat}
 use Rattle.acts.specs.declared.seats.State.{State}
 use Rattle.acts.specs.declared.seats.State.TheVariants.{Open, Out}
 use Rattle.acts.specs.declared.seats.Transaction.{Transaction}
-use Rattle.acts.specs.Pagers.{Between, Refuses, Acts, ReadActs, ReadOpen, CommitOpen, IsSoundTransaction, after_own, after_fetch, after_write, submitted_of, with_state}
-use Rattle.acts.specs.Turns.{Moves, IsRefused, SwapsPins}
+use Rattle.acts.specs.Pagers.{Between, RefusesLines, Acts, ReadActs, ReadOpen, CommitOpen, IsSoundTransaction, after_own, after_fetch, after_write, submitted_of, with_state}
+use Rattle.acts.specs.Turns.{Moves, StandsRefused, SwapsPins}
 
 -- A read of an own page leaves a transaction sound.
 pub sound_own : (page_size : ℕ) (old new : Transaction) (page : ℕ) → new ≡ after_own old page
@@ -132,7 +132,7 @@ asked_is before session ordinal old new after moves =
 
 -- COMMIT that was refused, as an act
 refused : (engine : Between) (session ordinal : ℕ) (old : Transaction) (why : CommitFault) (new : State) (told : Result Told AllocError)
-    → During engine.old (λ mid. Refuses engine.opened mid (record {
+    → During engine.old (λ mid. RefusesLines engine.opened mid (record {
       snap = old.pin.n;
       reads = old.reads;
       change = record { mode = Concurrent; base = old.pin.size; changed = old.changed; fresh = []; freed = []; tail = false };
@@ -141,7 +141,7 @@ refused : (engine : Between) (session ordinal : ℕ) (old : Transaction) (why : 
       session = session;
       ordinal = ordinal;
     }) why engine.new)
-    → IsRefused why old new told
+    → StandsRefused why old new told
     → IfOk told (λ told. (before after : List Seat) → Moves before session ordinal (Open old) new after
     → CommitOpen engine session before after old told)
 unfolding asked_by
@@ -149,7 +149,7 @@ refused engine session ordinal old (Stopped log at) new told found is =
     subst (λ (told : Result Told AllocError). IfOk told (λ told. (before after : List Seat) → Moves before session ordinal (Open old) new after
     → CommitOpen engine session before after old told)) (sym is.0)
     (λ before after moves. (
-      subst (λ (asked : Submitted). During engine.old (λ mid. Refuses engine.opened mid asked (Stopped log at) engine.new))
+      subst (λ (asked : Submitted). During engine.old (λ mid. RefusesLines engine.opened mid asked (Stopped log at) engine.new))
           (asked_is before session ordinal old new after moves) found,
       moves.rests is.1,
     ))
@@ -157,7 +157,7 @@ refused engine session ordinal old (BusySnapshot page number) new told found is 
     subst (λ (told : Result Told AllocError). IfOk told (λ told. (before after : List Seat) → Moves before session ordinal (Open old) new after
     → CommitOpen engine session before after old told)) (sym is.0)
     (λ before after moves. (
-      subst (λ (asked : Submitted). During engine.old (λ mid. Refuses engine.opened mid asked (BusySnapshot page number) engine.new))
+      subst (λ (asked : Submitted). During engine.old (λ mid. RefusesLines engine.opened mid asked (BusySnapshot page number) engine.new))
           (asked_is before session ordinal old new after moves) found,
       moves.put ∙ ap (λ (state : State). with_state before session state) is.1,
     ))
@@ -167,7 +167,7 @@ refused engine session ordinal old (SizeLimit pages frames) new told found is =
     (λ before after moves. (
       (
         frames,
-        subst (λ (asked : Submitted). During engine.old (λ mid. Refuses engine.opened mid asked (SizeLimit pages frames) engine.new))
+        subst (λ (asked : Submitted). During engine.old (λ mid. RefusesLines engine.opened mid asked (SizeLimit pages frames) engine.new))
             (asked_is before session ordinal old new after moves) found,
       ),
       moves.rests is.1,
@@ -179,7 +179,7 @@ refused engine session ordinal old Disk new told found is =
     subst (λ (told : Result Told AllocError). IfOk told (λ told. (before after : List Seat) → Moves before session ordinal (Open old) new after
     → CommitOpen engine session before after old told)) (sym is.0)
     (λ before after moves. (
-      subst (λ (asked : Submitted). During engine.old (λ mid. Refuses engine.opened mid asked Disk engine.new))
+      subst (λ (asked : Submitted). During engine.old (λ mid. RefusesLines engine.opened mid asked Disk engine.new))
           (asked_is before session ordinal old new after moves) found,
       moves.rests is.1,
     ))
@@ -187,7 +187,7 @@ refused engine session ordinal old (Corrupt page) new told found is = absurd is
 
 pub refused_acts : (engine : Between) (session ordinal : ℕ) (old back : Transaction) (why : CommitFault) (new : State) (told : Result Told AllocError)
     (fresh : List PageImage) (freed : List ℕ) → fresh ≡ [] → freed ≡ []
-    → During engine.old (λ mid. Refuses engine.opened mid (record {
+    → During engine.old (λ mid. RefusesLines engine.opened mid (record {
       snap = old.pin.n;
       reads = old.reads;
       change = record { mode = Concurrent; base = old.pin.size; changed = old.changed; fresh = fresh; freed = freed; tail = false };
@@ -196,12 +196,12 @@ pub refused_acts : (engine : Between) (session ordinal : ℕ) (old back : Transa
       session = session;
       ordinal = ordinal;
     }) why engine.new)
-    → back ≡ old → IsRefused why back new told
+    → back ≡ old → StandsRefused why back new told
     → IfOk told (λ told. (before after : List Seat) → Moves before session ordinal (Open old) new after
     → CommitOpen engine session before after old told)
 refused_acts engine session ordinal old back why new told fresh freed none none_freed found same is =
     refused engine session ordinal old why new told
-    (subst (λ (freed : List ℕ). During engine.old (λ mid. Refuses engine.opened mid (record {
+    (subst (λ (freed : List ℕ). During engine.old (λ mid. RefusesLines engine.opened mid (record {
       snap = old.pin.n;
       reads = old.reads;
       change = record { mode = Concurrent; base = old.pin.size; changed = old.changed; fresh = []; freed = freed; tail = false };
@@ -210,7 +210,7 @@ refused_acts engine session ordinal old back why new told fresh freed none none_
       session = session;
       ordinal = ordinal;
     }) why engine.new)) none_freed
-    (subst (λ (fresh : List PageImage). During engine.old (λ mid. Refuses engine.opened mid (record {
+    (subst (λ (fresh : List PageImage). During engine.old (λ mid. RefusesLines engine.opened mid (record {
       snap = old.pin.n;
       reads = old.reads;
       change = record { mode = Concurrent; base = old.pin.size; changed = old.changed; fresh = fresh; freed = freed; tail = false };
@@ -219,7 +219,7 @@ refused_acts engine session ordinal old back why new told fresh freed none none_
       session = session;
       ordinal = ordinal;
     }) why engine.new)) none found))
-    (subst (λ (one : Transaction). IsRefused why one new told) same is)
+    (subst (λ (one : Transaction). StandsRefused why one new told) same is)
 
 -- what a commit leaves of the sizes, of who may commit and of who may begin
 pub record Leaves (old new : EngineState) : Type 0 where
@@ -320,7 +320,7 @@ commit_runs means told old pin prepared (ReadOnly n) new is_good runs = runs
 -- A change that makes and frees no page meets no page of the freelist.
 pub refuses_lines : (opened : Opening → Type 0) (stands : Type 0) (before : EngineState) (asked : Submitted) (why : CommitFault)
     (after : EngineState) → asked.change.fresh ≡ [] → asked.change.freed ≡ [] → RefusesCommit opened stands before asked why after
-    → Refuses opened before asked why after × ((page : ℕ) → why ≢ Corrupt page)
+    → RefusesLines opened before asked why after × ((page : ℕ) → why ≢ Corrupt page)
 refuses_lines opened stands before asked (Stopped log at) after fresh freed refuses = (refuses, λ page e. absurd cc)
 refuses_lines opened stands before asked (BusySnapshot page number) after fresh freed refuses = (refuses, λ page e. absurd cc)
 refuses_lines opened stands before asked (SizeLimit pages frames) after fresh freed refuses = (refuses, λ page e. absurd cc)
@@ -332,7 +332,7 @@ refuses_lines opened stands before asked (Corrupt page) after fresh freed refuse
 pub refuses_during : (opened : Opening → Type 0) (stands : Type 0) (before : EngineState) (asked : Submitted) (why : CommitFault)
     (after : EngineState) → asked.change.fresh ≡ [] → asked.change.freed ≡ []
     → During before (λ mid. RefusesCommit opened stands mid asked why after)
-    → During before (λ mid. Refuses opened mid asked why after) × ((page : ℕ) → why ≢ Corrupt page)
+    → During before (λ mid. RefusesLines opened mid asked why after) × ((page : ℕ) → why ≢ Corrupt page)
 refuses_during opened stands before asked why after fresh freed (mid, later, refuses) =
     let both = refuses_lines opened stands mid asked why after fresh freed refuses in
     ((mid, later, both.0), both.1)

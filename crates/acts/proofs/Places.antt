@@ -6,7 +6,7 @@ use Rattle.engine_spec.specs.declared.commits.PageImage.{PageImage}
 use Rattle.page_lines.specs.PageLines.{with_image}
 use Rattle.acts.specs.declared.seats.Seat.{Seat}
 use Rattle.acts.specs.declared.seats.State.TheVariants.{Out}
-use Rattle.acts.specs.Pagers.{state_of, begun_of, with_seat}
+use Rattle.acts.specs.Pagers.{seat_state, begun_of, with_seat}
 
 -- where something is found, and where nothing is
 found_cases : (test : Bool) (n at : ℕ) → cond test (Some n) None ≡ Some at → (at ≡ n) × (test ≡ true)
@@ -96,7 +96,7 @@ seat_new (seat ∷ seats) new none = by_test (eqb seat.session new.session) none
 
 -- how a session stands, and how many transactions it has begun, by its place
 facts_there : (seats : List Seat) (session : ℕ) (d : Seat) → place session seats < length seats
-    → (state_of seats session ≡ (get_or seats (place session seats) d).state)
+    → (seat_state seats session ≡ (get_or seats (place session seats) d).state)
     × (begun_of seats session ≡ (get_or seats (place session seats) d).begun)
     × ((get_or seats (place session seats) d).session ≡ session)
 unfolding place
@@ -106,10 +106,10 @@ facts_there (seat ∷ seats) session d there = by_test (eqb seat.session session
     by_test : (test : Bool) → eqb seat.session session ≡ test
         → cond (not test) (1 + position_or_len (λ one. eqb one.session session) seats) 0 < length (seat ∷ seats)
         → (position_or_len (λ one. eqb one.session session) seats < length seats
-        → (state_of seats session ≡ (get_or seats (position_or_len (λ one. eqb one.session session) seats) d).state)
+        → (seat_state seats session ≡ (get_or seats (position_or_len (λ one. eqb one.session session) seats) d).state)
         × (begun_of seats session ≡ (get_or seats (position_or_len (λ one. eqb one.session session) seats) d).begun)
         × ((get_or seats (position_or_len (λ one. eqb one.session session) seats) d).session ≡ session))
-        → (cond test seat.state (state_of seats session)
+        → (cond test seat.state (seat_state seats session)
         ≡ (get_or (seat ∷ seats) (cond (not test) (1 + position_or_len (λ one. eqb one.session session) seats) 0) d).state)
         × (cond test seat.begun (begun_of seats session)
         ≡ (get_or (seat ∷ seats) (cond (not test) (1 + position_or_len (λ one. eqb one.session session) seats) 0) d).begun)
@@ -118,27 +118,27 @@ facts_there (seat ∷ seats) session d there = by_test (eqb seat.session session
     by_test false is there rest =
         let n = position_or_len (λ (one : Seat). eqb one.session session) seats in
         let more : 1 + n ≡ suc n = omega arith in
-        subst (λ (k : ℕ). (state_of seats session ≡ (get_or (seat ∷ seats) k d).state)
+        subst (λ (k : ℕ). (seat_state seats session ≡ (get_or (seat ∷ seats) k d).state)
         × (begun_of seats session ≡ (get_or (seat ∷ seats) k d).begun) × ((get_or (seat ∷ seats) k d).session ≡ session)) (sym more)
         (rest (omega arith))
 
 facts_absent : (seats : List Seat) (session : ℕ) → length seats ≤ place session seats
-    → (state_of seats session ≡ Out) × (begun_of seats session ≡ 0)
+    → (seat_state seats session ≡ Out) × (begun_of seats session ≡ 0)
 unfolding place
 facts_absent [] session none = (refl, refl)
 facts_absent (seat ∷ seats) session none = by_test (eqb seat.session session) none (facts_absent seats session)
   where
     by_test : (test : Bool) → length (seat ∷ seats) ≤ cond (not test) (1 + position_or_len (λ one. eqb one.session session) seats) 0
         → (length seats ≤ position_or_len (λ one. eqb one.session session) seats
-        → (state_of seats session ≡ Out) × (begun_of seats session ≡ 0))
-        → (cond test seat.state (state_of seats session) ≡ Out) × (cond test seat.begun (begun_of seats session) ≡ 0)
+        → (seat_state seats session ≡ Out) × (begun_of seats session ≡ 0))
+        → (cond test seat.state (seat_state seats session) ≡ Out) × (cond test seat.begun (begun_of seats session) ≡ 0)
     by_test true none rest = absurd (omega arith)
     by_test false none rest = rest (omega arith)
 
 -- What is known where a session has a seat.
 pub record IsSeated (seats : List Seat) (session at : ℕ) : Type 0 where
   pub within : at < length seats
-  pub state : (d : Seat) → state_of seats session ≡ (get_or seats at d).state
+  pub state : (d : Seat) → seat_state seats session ≡ (get_or seats at d).state
   pub begun : (d : Seat) → begun_of seats session ≡ (get_or seats at d).begun
   pub session_is : (d : Seat) → (get_or seats at d).session ≡ session
   pub put : (new : Seat) → new.session ≡ session → with_seat seats new ≡ set seats at new
@@ -159,7 +159,7 @@ seated seats session at is =
 
 -- What is known where it has none.
 pub record IsUnseated (seats : List Seat) (session : ℕ) : Type 0 where
-  pub state : state_of seats session ≡ Out
+  pub state : seat_state seats session ≡ Out
   pub begun : begun_of seats session ≡ 0
   pub put : (new : Seat) → new.session ≡ session → with_seat seats new ≡ seats ++ new ∷ []
 

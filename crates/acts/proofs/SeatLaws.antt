@@ -6,30 +6,30 @@ use Rattle.std.proofs.lemmas.List.Elements.{All-head, All-tail, Contains-append_
 use Rattle.engine_spec.specs.declared.pins.Pin.{Pin}
 use Rattle.acts.specs.declared.seats.Seat.{Seat}
 use Rattle.acts.specs.declared.seats.State.{State}
-use Rattle.acts.specs.Pagers.{state_of, begun_of, with_seat, pins_in, pins_of, IsSoundState, AreSound}
+use Rattle.acts.specs.Pagers.{seat_state, begun_of, with_seat, pins_in, pins_of, IsSoundState, AreSound}
 
 -- a session stands as the seat says that is put for it
-pub state_of-same : (seats : List Seat) (seat : Seat) → state_of (with_seat seats seat) seat.session ≡ seat.state
-state_of-same [] seat = rw (eq-eqb seat.session seat.session refl) refl
-state_of-same (first ∷ seats) seat = elim (cases_eq first.session seat.session) [
+pub seat_state-same : (seats : List Seat) (seat : Seat) → seat_state (with_seat seats seat) seat.session ≡ seat.state
+seat_state-same [] seat = rw (eq-eqb seat.session seat.session refl) refl
+seat_state-same (first ∷ seats) seat = elim (cases_eq first.session seat.session) [
   | inl same ↦ rw (eq-eqb first.session seat.session same, eq-eqb seat.session seat.session refl) refl
-  | inr apart ↦ rw (ne_eqb first.session seat.session apart, ne_eqb first.session seat.session apart) (state_of-same seats seat)
+  | inr apart ↦ rw (ne_eqb first.session seat.session apart, ne_eqb first.session seat.session apart) (seat_state-same seats seat)
 ]
 
 -- and the others stand as before
-pub state_of-other : (seats : List Seat) (seat : Seat) (session : ℕ) → (seat.session ≡ session → ⊥)
-    → state_of (with_seat seats seat) session ≡ state_of seats session
-state_of-other [] seat session apart = rw (ne_eqb seat.session session apart) refl
-state_of-other (first ∷ seats) seat session apart = elim (cases_eq first.session seat.session) [
+pub seat_state-other : (seats : List Seat) (seat : Seat) (session : ℕ) → (seat.session ≡ session → ⊥)
+    → seat_state (with_seat seats seat) session ≡ seat_state seats session
+seat_state-other [] seat session apart = rw (ne_eqb seat.session session apart) refl
+seat_state-other (first ∷ seats) seat session apart = elim (cases_eq first.session seat.session) [
   | inl same ↦
       (let differs : first.session ≡ session → ⊥ = λ e. apart (sym same ∙ e) in
       rw (eq-eqb first.session seat.session same, ne_eqb seat.session session apart, ne_eqb first.session session differs) refl)
   | inr differs ↦
-      rw (ne_eqb first.session seat.session differs) (by_test (eqb first.session session) (state_of-other seats seat session apart))
+      rw (ne_eqb first.session seat.session differs) (by_test (eqb first.session session) (seat_state-other seats seat session apart))
 ]
   where
-    by_test : (test : Bool) → state_of (with_seat seats seat) session ≡ state_of seats session
-        → cond test first.state (state_of (with_seat seats seat) session) ≡ cond test first.state (state_of seats session)
+    by_test : (test : Bool) → seat_state (with_seat seats seat) session ≡ seat_state seats session
+        → cond test first.state (seat_state (with_seat seats seat) session) ≡ cond test first.state (seat_state seats session)
     by_test true rest = refl
     by_test false rest = rest
 
@@ -59,27 +59,27 @@ begun_of-other (first ∷ seats) seat session apart = elim (cases_eq first.sessi
     by_test false rest = rest
 
 -- the pin of a session is one of the pins of all
-pub pin_there : (seats : List Seat) (session : ℕ) (pin : Pin) → Contains (pins_in (state_of seats session)) pin → Contains (pins_of seats) pin
+pub pin_there : (seats : List Seat) (session : ℕ) (pin : Pin) → Contains (pins_in (seat_state seats session)) pin → Contains (pins_of seats) pin
 pin_there [] session pin there = there
 pin_there (seat ∷ seats) session pin there = elim (cases_eq seat.session session) [
   | inl same ↦
-      (let is : state_of (seat ∷ seats) session ≡ seat.state = rw (eq-eqb seat.session session same) refl in
+      (let is : seat_state (seat ∷ seats) session ≡ seat.state = rw (eq-eqb seat.session session same) refl in
       Contains-append_left (pins_in seat.state) (pins_of seats) pin (subst (λ (s : State). Contains (pins_in s) pin) is there))
   | inr apart ↦
-      (let is : state_of (seat ∷ seats) session ≡ state_of seats session = rw (ne_eqb seat.session session apart) refl in
+      (let is : seat_state (seat ∷ seats) session ≡ seat_state seats session = rw (ne_eqb seat.session session apart) refl in
       Contains-append_right (pins_in seat.state) (pins_of seats) pin
       (pin_there seats session pin (subst (λ (s : State). Contains (pins_in s) pin) is there)))
 ]
 
 -- where all are sound, each session's transaction is
-pub sound_at : (page_size : ℕ) (seats : List Seat) (session : ℕ) → AreSound page_size seats → IsSoundState page_size (state_of seats session)
+pub sound_at : (page_size : ℕ) (seats : List Seat) (session : ℕ) → AreSound page_size seats → IsSoundState page_size (seat_state seats session)
 sound_at page_size [] session sound = tt
 sound_at page_size (seat ∷ seats) session sound = elim (cases_eq seat.session session) [
   | inl same ↦
-      (let is : seat.state ≡ state_of (seat ∷ seats) session = rw (eq-eqb seat.session session same) refl in
+      (let is : seat.state ≡ seat_state (seat ∷ seats) session = rw (eq-eqb seat.session session same) refl in
       subst (IsSoundState page_size) is (All-head (λ (s : Seat). IsSoundState page_size s.state) seat seats sound))
   | inr apart ↦
-      (let is : state_of seats session ≡ state_of (seat ∷ seats) session = rw (ne_eqb seat.session session apart) refl in
+      (let is : seat_state seats session ≡ seat_state (seat ∷ seats) session = rw (ne_eqb seat.session session apart) refl in
       subst (IsSoundState page_size) is
       (sound_at page_size seats session (All-tail (λ (s : Seat). IsSoundState page_size s.state) seat seats sound)))
 ]

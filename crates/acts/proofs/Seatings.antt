@@ -17,8 +17,8 @@ use Rattle.acts.specs.declared.seats.State.{State}
 use Rattle.acts.specs.declared.seats.State.TheVariants.{Out, Open, Refused}
 use Rattle.acts.specs.declared.turns.Deed.{Deed}
 use Rattle.acts.specs.declared.turns.Deed.TheVariants.{Read, Write, Commit, Rollback}
-use Rattle.acts.specs.Pagers.{Between, Acts, BeginActs, ReadActs, WriteActs, CommitActs, RollbackActs, state_of, begun_of, with_seat, pins_in, pins_of, new_transaction}
-use Rattle.acts.specs.Turns.{act_of, Moves, AllLive, SwapsPins, HasBegun, IsBegun}
+use Rattle.acts.specs.Pagers.{Between, Acts, BeginActs, ReadActs, WriteActs, CommitActs, RollbackActs, seat_state, begun_of, with_seat, pins_in, pins_of, new_transaction}
+use Rattle.acts.specs.Turns.{act_of, Moves, AllLive, SwapsPins, SeatHasBegun, IsBegun}
 use Rattle.acts.proofs.Places.{IsSeated, seated, unseated}
 
 -- the pins of all sessions, once one seat is another
@@ -74,7 +74,7 @@ moves_there : (seats : List Seat) (session at : ℕ) (seat new : Seat) → IsSea
     → new.session ≡ seat.session → new.begun ≡ seat.begun → seat.session ≡ session
     → Moves seats seat.session seat.begun seat.state new.state (set seats at new)
 moves_there seats session at seat new place item same_session same_begun is = record {
-  state = ap (state_of seats) is ∙ (place.state seat ∙ ap (λ (one : Seat). one.state) (sym item));
+  state = ap (seat_state seats) is ∙ (place.state seat ∙ ap (λ (one : Seat). one.state) (sym item));
   begun = begun_is;
   put = ap (set seats at) (seat_is new seat.session (begun_of seats seat.session) new.state same_session (same_begun ∙ sym begun_is) refl)
       ∙ sym (place.put (record { session = seat.session; begun = begun_of seats seat.session; state = new.state }) is);
@@ -152,7 +152,7 @@ new_stays told old new seats turned stays =
 -- BEGIN of a session that has a seat, as an act
 pub begin_acts : (engine : Between) (seats : List Seat) (session at : ℕ) (seat new : Seat) (told : Told)
     → position (λ seat. eqb seat.session session) seats ≡ Some at → seat ≡ get_or seats at seat
-    → IsBegun engine seat new told seat.state → BeginActs engine session seats (set seats at new) told (state_of seats session)
+    → IsBegun engine seat new told seat.state → BeginActs engine session seats (set seats at new) told (seat_state seats session)
 begin_acts engine seats session at seat new told found item begun =
     subst (λ (state : State). BeginActs engine session seats (set seats at new) told state)
     (sym (place.state seat ∙ ap (λ (one : Seat). one.state) (sym item))) (by_state seat.state begun)
@@ -191,7 +191,7 @@ begin_acts engine seats session at seat new told found item begun =
 -- BEGIN of a session that has none
 pub new_acts : (engine : Between) (seats : List Seat) (session : ℕ) (seat new : Seat)
     → position (λ seat. eqb seat.session session) seats ≡ None → seat ≡ record { session = session; begun = 0; state = Out }
-    → HasBegun engine seat new → BeginActs engine session seats (seats ++ new ∷ []) reply.Ok (state_of seats session)
+    → SeatHasBegun engine seat new → BeginActs engine session seats (seats ++ new ∷ []) reply.Ok (seat_state seats session)
 new_acts engine seats session seat new none blank (pin, found, made) =
     let place = unseated seats session none in
     subst (λ (state : State). BeginActs engine session seats (seats ++ new ∷ []) reply.Ok state) (sym place.state) (
@@ -222,10 +222,10 @@ pushed_set seats pushed at blank new is last = ap (λ (list : List Seat). set li
 pub pushed_acts : (engine : Between) (seats pushed : List Seat) (session at : ℕ) (seat new : Seat)
     → position (λ seat. eqb seat.session session) seats ≡ None
     → pushed ≡ seats ++ record { session = session; begun = 0; state = Out } ∷ [] → length seats ≡ at
-    → seat ≡ get_or pushed at seat → HasBegun engine seat new
-    → BeginActs engine session seats (set pushed at new) reply.Ok (state_of seats session)
+    → seat ≡ get_or pushed at seat → SeatHasBegun engine seat new
+    → BeginActs engine session seats (set pushed at new) reply.Ok (seat_state seats session)
 pushed_acts engine seats pushed session at seat new none is last item begun =
-    subst (λ (after : List Seat). BeginActs engine session seats after reply.Ok (state_of seats session))
+    subst (λ (after : List Seat). BeginActs engine session seats after reply.Ok (seat_state seats session))
     (sym (pushed_set seats pushed at (record { session = session; begun = 0; state = Out }) new is last))
     (new_acts engine seats session seat new none
     (pushed_item seats pushed at (record { session = session; begun = 0; state = Out }) seat is last item) begun)

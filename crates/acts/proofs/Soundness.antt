@@ -13,7 +13,7 @@ use Rattle.page_lines.proofs.Transactions.{none_are, fills_none}
 use Rattle.acts.specs.declared.seats.Seat.{Seat}
 use Rattle.acts.specs.declared.seats.State.{State}
 use Rattle.acts.specs.declared.seats.State.TheVariants.{Out, Open, Refused}
-use Rattle.acts.specs.Pagers.{Between, Acts, BeginActs, ReadActs, ReadOpen, WriteActs, CommitActs, CommitOpen, RollbackActs, AreSound, IsSoundState, IsSoundTransaction, state_of, begun_of, with_seat, with_state, new_transaction, after_own, after_fetch}
+use Rattle.acts.specs.Pagers.{Between, Acts, BeginActs, ReadActs, ReadOpen, WriteActs, CommitActs, CommitOpen, RollbackActs, AreSound, IsSoundState, IsSoundTransaction, seat_state, begun_of, with_seat, with_state, new_transaction, after_own, after_fetch}
 use Rattle.acts.proofs.SeatLaws.{sound_at}
 use Rattle.acts.proofs.Outcomes.{sound_own, sound_fetch, after_write_sound}
 
@@ -127,16 +127,16 @@ rollback_sound engine session before after told (Refused pin) all acts =
 pub acts_sound : (engine : Between) (before after : List Seat) (one : Act) (told : Told) → 16 ≤ engine.old.size → IsInRange one
     → AreSound engine.old.page_size before → Acts engine before one told after → AreSound engine.old.page_size after
 acts_sound engine before after (act.Begin session) told pages range all acts =
-    begin_sound engine session before after told (state_of before session) pages all acts
+    begin_sound engine session before after told (seat_state before session) pages all acts
 acts_sound engine before after (act.Read session page) told pages range all acts =
-    read_sound engine session page before after told (state_of before session) all (sound_at engine.old.page_size before session all) acts
+    read_sound engine session page before after told (seat_state before session) all (sound_at engine.old.page_size before session all) acts
 acts_sound engine before after (act.Write session page byte) told pages range all acts =
-    write_sound engine session page byte before after told (state_of before session) range.0 range.1 all
+    write_sound engine session page byte before after told (seat_state before session) range.0 range.1 all
     (sound_at engine.old.page_size before session all) acts
 acts_sound engine before after (act.Commit session) told pages range all acts =
-    commit_sound engine session before after told (state_of before session) all acts
+    commit_sound engine session before after told (seat_state before session) all acts
 acts_sound engine before after (act.Rollback session) told pages range all acts =
-    rollback_sound engine session before after told (state_of before session) all acts
+    rollback_sound engine session before after told (seat_state before session) all acts
 acts_sound engine before after act.Copy told pages range all acts = sound_same engine.old.page_size before after all acts.1
 acts_sound engine before after act.Step told pages range all acts = sound_same engine.old.page_size before after all acts.1
 acts_sound engine before after act.Logs told pages range all acts = sound_same engine.old.page_size before after all acts.0

@@ -13,12 +13,12 @@ use Rattle.engine_spec.specs.TwoLogs.{TwoLogs, told_logs}
 use Rattle.crash_spec.specs.Opening.{Opening}
 use Rattle.engine_spec.specs.State.{EngineState}
 use Rattle.engine_spec.specs.Events.{Checkpoints}
-use Rattle.page_lines.specs.World.{World, SessionState, Outcome, changed_at, map_number, newest_map, step, begin_step, read_step, write_step, commit_step, rollback_step, commit, committed, moved, decided, change_of, submitted}
+use Rattle.page_lines.specs.World.{World, SessionState, Outcome, changed_at, map_number, newest_map, step, begin_step, read_step, write_step, commit_step, rollback_step, commit, committed, moved, decided, change_of, handed_in}
 use Rattle.page_lines.specs.World as run
 use Rattle.acts.specs.declared.seats.Seat.{Seat}
-use Rattle.acts.specs.Pagers.{Between, Acts, StepActs, Copies, state_of}
+use Rattle.acts.specs.Pagers.{Between, Acts, StepActs, Copies, seat_state}
 use Rattle.acts.specs.Playing.{IsOfSession}
-use Rattle.acts.specs.Standing.{TellsOf}
+use Rattle.acts.specs.Standing.{TellsMaps}
 use Rattle.acts.proofs.Telling.{tells_as}
 use Rattle.acts.proofs.Standing.{Stands, Leads, MindsNoLogs, stay, tells_same, never_steps}
 use Rattle.acts.proofs.StandingStatements.{begin_acts, read_acts, write_acts, rollback_acts}
@@ -26,7 +26,7 @@ use Rattle.acts.proofs.StandingCommits.{commit_acts}
 
 -- where there are no logs, a step of a checkpoint is idle and changes nothing
 idles : (opened : Opening → Type 0) (old new : EngineState) (answer : Ckpt) (maps : List PageMap) (history : List Commit)
-    → TellsOf old maps history → old.logs ≡ None → Checkpoints opened old answer new → (answer ≡ checkpoint.Idle) × TellsOf new maps history
+    → TellsMaps old maps history → old.logs ≡ None → Checkpoints opened old answer new → (answer ≡ checkpoint.Idle) × TellsMaps new maps history
 idles opened old new answer maps history tells none checks =
     let there : (answer ≡ checkpoint.Idle) × (new.logs ≡ None) = rw none at checks.steps in
     (there.0, tells_as old new maps history old.faults new.logs old.readers new.disk checks.after_is tells)
@@ -77,15 +77,15 @@ no_logs seen one told never minds = elim minds [ inl none ↦ none | inr other �
 pub acts_stand : (engine : Between) (seats after : List Seat) (world : World) (one : Act) (told : Told) → Stands engine seats after world
     → MindsNoLogs engine.old one told → Acts engine seats one told after → Leads engine after told (step world one)
 acts_stand engine seats after world (act.Begin s) told b minds acts =
-    begin_acts engine seats after world s told (state_of seats s) (world.sessions s) b (b.stands.sessions s) acts
+    begin_acts engine seats after world s told (seat_state seats s) (world.sessions s) b (b.stands.sessions s) acts
 acts_stand engine seats after world (act.Read s page) told b minds acts =
-    read_acts engine seats after world s page told (state_of seats s) (world.sessions s) b refl (b.stands.sessions s) acts
+    read_acts engine seats after world s page told (seat_state seats s) (world.sessions s) b refl (b.stands.sessions s) acts
 acts_stand engine seats after world (act.Write s page byte) told b minds acts =
-    write_acts engine seats after world s page byte told (state_of seats s) (world.sessions s) b refl (b.stands.sessions s) acts
+    write_acts engine seats after world s page byte told (seat_state seats s) (world.sessions s) b refl (b.stands.sessions s) acts
 acts_stand engine seats after world (act.Commit s) told b minds acts =
-    commit_acts engine seats after world s told (state_of seats s) (world.sessions s) b minds refl (b.stands.sessions s) acts
+    commit_acts engine seats after world s told (seat_state seats s) (world.sessions s) b minds refl (b.stands.sessions s) acts
 acts_stand engine seats after world (act.Rollback s) told b minds acts =
-    rollback_acts engine seats after world s told (state_of seats s) (world.sessions s) b (b.stands.sessions s) acts
+    rollback_acts engine seats after world s told (seat_state seats s) (world.sessions s) b (b.stands.sessions s) acts
 acts_stand engine seats after world act.Copy told b minds acts =
     copy_acts engine seats after world told acts.0.0 b (no_logs engine.old act.Copy told (λ never. never) minds) acts.1 acts.0.1
 acts_stand engine seats after world act.Step told b minds acts =

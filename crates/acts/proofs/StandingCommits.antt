@@ -18,7 +18,7 @@ use Rattle.engine_spec.specs.State.{EngineState}
 use Rattle.engine_spec.specs.TwoLogs.{one_fewer}
 use Rattle.engine_spec.specs.Written.{Submitted, commit_of}
 use Rattle.engine_spec.specs.Events.{Ends, AcceptsCommit}
-use Rattle.page_lines.specs.World.{World, SessionState, Outcome, changed_at, map_number, newest_map, step, begin_step, read_step, write_step, commit_step, rollback_step, commit, committed, moved, decided, change_of, submitted, commit_in, pages_written}
+use Rattle.page_lines.specs.World.{World, SessionState, Outcome, changed_at, map_number, newest_map, step, begin_step, read_step, write_step, commit_step, rollback_step, commit, committed, moved, decided, change_of, handed_in, commit_in, pages_written}
 use Rattle.page_lines.specs.World as run
 use Rattle.page_lines.proofs.Written.{writes_is}
 use Rattle.engine_spec.proofs.Conflicts.{conflict_none, conflict_is}
@@ -26,16 +26,16 @@ use Rattle.acts.specs.declared.seats.Seat.{Seat}
 use Rattle.acts.specs.declared.seats.State.{State}
 use Rattle.acts.specs.declared.seats.State.TheVariants as seat
 use Rattle.acts.specs.declared.seats.Transaction.{Transaction}
-use Rattle.acts.specs.Pagers.{Between, Refuses, CommitOpen, CommitActs, IsSoundTransaction, IsSoundState, state_of, begun_of, with_seat, submitted_of}
-use Rattle.acts.specs.Standing.{TellsOf, PinStands, IsTransaction, Matches}
+use Rattle.acts.specs.Pagers.{Between, RefusesLines, CommitOpen, CommitActs, IsSoundTransaction, IsSoundState, seat_state, begun_of, with_seat, submitted_of}
+use Rattle.acts.specs.Standing.{TellsMaps, PinStands, IsTransaction, Matches}
 use Rattle.acts.proofs.SeatLaws.{sound_at}
 use Rattle.acts.proofs.Telling.{extends_same, extends_push, tells_more, tells_readers, not_over}
 use Rattle.acts.proofs.Standing.{Stands, Leads, MindsNoLogs, turn, tells_same, rests, pin_stays, tells_ended}
 
 -- what a transaction hands in is what the world commits
-submits : (seats : List Seat) (world : World) (s : ℕ) (held : Transaction) (transaction : run.Transaction)
+submits : (seats : List Seat) (world : World) (s : ℕ) (held : Transaction) (transaction : run.PageTransaction)
     (map_before : Pin → Option PageMap) → IsTransaction held transaction → PinStands map_before world.maps held.pin
-    → world.begun s ≡ begun_of seats s → submitted_of seats s held ≡ submitted world s transaction
+    → world.begun s ≡ begun_of seats s → submitted_of seats s held ≡ handed_in world s transaction
 submits seats world s held transaction map_before same pin begun =
     let base : held.pin.size ≡ length (map_number world transaction.snap) =
     pin.size ∙ ap (λ (n : ℕ). length (get_or world.maps n [])) (sym same.snap) in
@@ -47,7 +47,7 @@ submits seats world s held transaction map_before same pin begun =
     cc
 
 -- COMMIT that nothing bars
-commit_is : (world : World) (s : ℕ) (transaction : run.Transaction) → transaction.wrote ≡ true
+commit_is : (world : World) (s : ℕ) (transaction : run.PageTransaction) → transaction.wrote ≡ true
     → conflict Concurrent transaction.reads transaction.snap world.history ≡ None
     → commit world s transaction ≡ committed world s transaction
 commit_is world s transaction wrote none =
@@ -57,7 +57,7 @@ commit_is world s transaction wrote none =
     ∙ ap (decided world s transaction) none
 
 -- COMMIT that a later commit bars
-busy_is : (world : World) (s : ℕ) (transaction : run.Transaction) (page number : ℕ) → transaction.wrote ≡ true
+busy_is : (world : World) (s : ℕ) (transaction : run.PageTransaction) (page number : ℕ) → transaction.wrote ≡ true
     → conflict Concurrent transaction.reads transaction.snap world.history ≡ Some (page, number)
     → commit world s transaction ≡ moved world s (run.Refused transaction) (reply.Busy page number)
 busy_is world s transaction page number wrote found =
@@ -67,7 +67,7 @@ busy_is world s transaction page number wrote found =
     ∙ ap (decided world s transaction) found
 
 -- COMMIT of a transaction that wrote nothing
-read_only_is : (world : World) (s : ℕ) (transaction : run.Transaction) → transaction.wrote ≡ false
+read_only_is : (world : World) (s : ℕ) (transaction : run.PageTransaction) → transaction.wrote ≡ false
     → commit world s transaction ≡ moved world s run.Out (reply.Done (ReadOnly transaction.snap))
 read_only_is world s transaction wrote =
     ap (λ (test : Bool). cond test
@@ -76,7 +76,7 @@ read_only_is world s transaction wrote =
 
 -- a session out of its transaction after COMMIT
 committed_acts : (engine : Between) (seats after : List Seat) (world : World) (s : ℕ) (held : Transaction)
-    (transaction : run.Transaction) (receipt : Receipt) → Stands engine seats after world → state_of seats s ≡ seat.Open held
+    (transaction : run.PageTransaction) (receipt : Receipt) → Stands engine seats after world → seat_state seats s ≡ seat.Open held
     → IsTransaction held transaction → PinStands engine.map_before world.maps held.pin
     → (done : EngineState) → AcceptsCommit engine.opened engine.old (submitted_of seats s held) receipt done → Ends done held.pin engine.new
     → after ≡ with_seat seats (record { session = s; begun = begun_of seats s; state = seat.Out })
@@ -92,7 +92,7 @@ committed_acts engine seats after world s held transaction (ReadOnly n) b is sam
 committed_acts engine seats after world s held transaction (At number) b is same pin done accepts ends put =
     let tells = b.stands.tells in
     let asked : Submitted = submitted_of seats s held in
-    let asked_is : asked ≡ submitted world s transaction =
+    let asked_is : asked ≡ handed_in world s transaction =
     submits seats world s held transaction engine.map_before same pin (b.stands.begun s) in
     let sound : IsSoundTransaction engine.old.page_size held =
     subst (IsSoundState engine.old.page_size) is (sound_at engine.old.page_size seats s b.sound) in
@@ -103,12 +103,12 @@ committed_acts engine seats after world s held transaction (At number) b is same
     ∙ conflict_none Concurrent held.reads held.pin.n engine.old.history accepts.clear.free in
     let pages_are : accepts.pages ≡ pages_written held.changed =
     writes_is engine.old.newest engine.old.size asked.change accepts.pages refl refl accepts.wrote in
-    let told : TellsOf done (world.maps ++ laid (newest_map world) asked.change ∷ []) (world.history ++ commit_of asked accepts.pages ∷ []) =
+    let told : TellsMaps done (world.maps ++ laid (newest_map world) asked.change ∷ []) (world.history ++ commit_of asked accepts.pages ∷ []) =
     tells_more engine.old done world.maps world.history asked.change (commit_of asked accepts.pages) refl refl sound.images
     (ap (λ (seen : EngineState). seen.history) accepts.after_is) (ap (λ (seen : EngineState). seen.newest) accepts.after_is)
     (ap (λ (seen : EngineState). seen.size) accepts.after_is) (ap (λ (seen : EngineState). seen.page_size) accepts.after_is)
     (ap (λ (seen : EngineState). seen.stopped) accepts.after_is) tells in
-    let ended : TellsOf engine.new (world.maps ++ laid (newest_map world) asked.change ∷ []) (world.history ++ commit_of asked accepts.pages ∷ []) =
+    let ended : TellsMaps engine.new (world.maps ++ laid (newest_map world) asked.change ∷ []) (world.history ++ commit_of asked accepts.pages ∷ []) =
     tells_readers done engine.new _ _ one_fewer held.pin.lock ends told in
     let same_commit : commit_of asked accepts.pages ≡ commit_in world s transaction =
     ap (λ (pages : List ℕ). commit_of asked pages) (pages_are ∙ ap pages_written (sym same.changed))
@@ -118,17 +118,17 @@ committed_acts engine seats after world s held transaction (At number) b is same
     subst (Leads engine after (reply.Done (At number))) (sym (commit_is world s transaction (same.wrote ∙ accepts.clear.wrote) free)) (
       ap (λ (k : ℕ). reply.Done (At k)) number_is,
       turn engine seats after world (committed world s transaction).world s seat.Out run.Out b put
-          (subst (λ (one : Commit). TellsOf engine.new (world.maps ++ laid (newest_map world) (change_of world transaction) ∷ [])
+          (subst (λ (one : Commit). TellsMaps engine.new (world.maps ++ laid (newest_map world) (change_of world transaction) ∷ [])
           (world.history ++ one ∷ [])) same_commit
-          (subst (λ (one : Submitted). TellsOf engine.new (world.maps ++ laid (newest_map world) one.change ∷ [])
+          (subst (λ (one : Submitted). TellsMaps engine.new (world.maps ++ laid (newest_map world) one.change ∷ [])
           (world.history ++ commit_of asked accepts.pages ∷ [])) asked_is ended))
           (extends_push world.maps (laid (newest_map world) (change_of world transaction))) tt (λ other. refl) (λ other. refl),
     )
 
 -- COMMIT of an open transaction
 commit_open : (engine : Between) (seats after : List Seat) (world : World) (s : ℕ) (held : Transaction)
-    (transaction : run.Transaction) (told : Told) → Stands engine seats after world → MindsNoLogs engine.old (act.Commit s) told
-    → state_of seats s ≡ seat.Open held → IsTransaction held transaction → PinStands engine.map_before world.maps held.pin
+    (transaction : run.PageTransaction) (told : Told) → Stands engine seats after world → MindsNoLogs engine.old (act.Commit s) told
+    → seat_state seats s ≡ seat.Open held → IsTransaction held transaction → PinStands engine.map_before world.maps held.pin
     → CommitOpen engine s seats after held told → Leads engine after told (commit world s transaction)
 commit_open engine seats after world s held transaction (reply.Done receipt) b minds is same pin acts =
     let found = acts.0 in
@@ -138,8 +138,8 @@ commit_open engine seats after world s held transaction (reply.Done receipt) b m
 commit_open engine seats after world s held transaction (reply.Busy page number) b minds is same pin acts =
     let found = acts.0 in
     let tells = b.stands.tells in
-    let refuses : Refuses engine.opened engine.old (submitted_of seats s held) (fault.BusySnapshot page number) engine.new =
-    subst (λ (mid : EngineState). Refuses engine.opened mid (submitted_of seats s held) (fault.BusySnapshot page number) engine.new) (found.1.nobody b.alone) found.2 in
+    let refuses : RefusesLines engine.opened engine.old (submitted_of seats s held) (fault.BusySnapshot page number) engine.new =
+    subst (λ (mid : EngineState). RefusesLines engine.opened mid (submitted_of seats s held) (fault.BusySnapshot page number) engine.new) (found.1.nobody b.alone) found.2 in
     let bars : conflict Concurrent transaction.reads transaction.snap world.history ≡ Some (page, number) =
     ap (λ (reads : List ℕ). conflict Concurrent reads transaction.snap world.history) same.reads
     ∙ ap (λ (n : ℕ). conflict Concurrent held.reads n world.history) same.snap
@@ -169,8 +169,8 @@ commit_open engine seats after world s held transaction (reply.Size pages) b min
     let found = acts.0.1 in
     let sound : IsSoundTransaction engine.old.page_size held =
     subst (IsSoundState engine.old.page_size) is (sound_at engine.old.page_size seats s b.sound) in
-    let refuses : Refuses engine.opened engine.old (submitted_of seats s held) (fault.SizeLimit pages acts.0.0) engine.new =
-    subst (λ (mid : EngineState). Refuses engine.opened mid (submitted_of seats s held) (fault.SizeLimit pages acts.0.0) engine.new) (found.1.nobody b.alone) found.2 in
+    let refuses : RefusesLines engine.opened engine.old (submitted_of seats s held) (fault.SizeLimit pages acts.0.0) engine.new =
+    subst (λ (mid : EngineState). RefusesLines engine.opened mid (submitted_of seats s held) (fault.SizeLimit pages acts.0.0) engine.new) (found.1.nobody b.alone) found.2 in
     elim minds [
       | inl none ↦
           absurd (not_over engine.old world.maps world.history (submitted_of seats s held).change b.stands.tells none refl refl sound.images refuses.3)
@@ -186,7 +186,7 @@ commit_open engine seats after world s held transaction (reply.Logs logs) b mind
 
 -- COMMIT
 pub commit_acts : (engine : Between) (seats after : List Seat) (world : World) (s : ℕ) (told : Told) (state : State) (session : SessionState)
-    → Stands engine seats after world → MindsNoLogs engine.old (act.Commit s) told → state_of seats s ≡ state
+    → Stands engine seats after world → MindsNoLogs engine.old (act.Commit s) told → seat_state seats s ≡ state
     → Matches engine.map_before world.maps state session → CommitActs engine s seats after told state → Leads engine after told (commit_step world s session)
 commit_acts engine seats after world s told seat.Out run.Out b minds is matches acts =
     rests engine seats after world reply.NoTransaction told b acts

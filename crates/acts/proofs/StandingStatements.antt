@@ -14,13 +14,13 @@ use Rattle.engine_spec.specs.declared.pins.Lock.{Lock}
 use Rattle.engine_spec.specs.State.{EngineState}
 use Rattle.engine_spec.specs.TwoLogs.{change_readers}
 use Rattle.engine_spec.specs.Events.{with_readers}
-use Rattle.page_lines.specs.World.{World, SessionState, Outcome, changed_at, map_number, newest_map, step, begin_step, read_step, write_step, commit_step, rollback_step, commit, committed, moved, decided, change_of, submitted}
+use Rattle.page_lines.specs.World.{World, SessionState, Outcome, changed_at, map_number, newest_map, step, begin_step, read_step, write_step, commit_step, rollback_step, commit, committed, moved, decided, change_of, handed_in}
 use Rattle.page_lines.specs.World as run
 use Rattle.acts.specs.declared.seats.Seat.{Seat}
 use Rattle.acts.specs.declared.seats.State.{State}
 use Rattle.acts.specs.declared.seats.State.TheVariants as seat
 use Rattle.acts.specs.declared.seats.Transaction.{Transaction}
-use Rattle.acts.specs.Pagers.{Between, BeginActs, ReadOpen, ReadActs, WriteActs, RollbackActs, state_of}
+use Rattle.acts.specs.Pagers.{Between, BeginActs, ReadOpen, ReadActs, WriteActs, RollbackActs, seat_state}
 use Rattle.acts.specs.Standing.{PinStands, IsTransaction, Matches}
 use Rattle.acts.proofs.Telling.{extends_same, tells_readers}
 use Rattle.acts.proofs.Standing.{Stands, Leads, move, turn, tells_same, rests, pin_stays, tells_quiet, never_fails, tells_ended}
@@ -79,7 +79,7 @@ begin_acts engine seats after world s told (seat.Refused pin) (run.Open transact
 
 -- READ of a page that the transaction wrote itself, or of its snapshot
 read_open : (engine : Between) (seats after : List Seat) (world : World) (s page : ℕ) (told : Told) (held : Transaction)
-    (transaction : run.Transaction) (own : Option (List ℕ)) → Stands engine seats after world → state_of seats s ≡ seat.Open held
+    (transaction : run.PageTransaction) (own : Option (List ℕ)) → Stands engine seats after world → seat_state seats s ≡ seat.Open held
     → image_of transaction.changed page ≡ own → IsTransaction held transaction → PinStands engine.map_before world.maps held.pin
     → ReadOpen engine s page seats after told held own → Leads engine after told (run.read world s transaction page)
 read_open engine seats after world s page told held transaction (Some bytes) b is own same pin acts =
@@ -128,7 +128,7 @@ read_open engine seats after world s page told held transaction None b is own sa
 
 -- READ
 pub read_acts : (engine : Between) (seats after : List Seat) (world : World) (s page : ℕ) (told : Told) (state : State) (session : SessionState)
-    → Stands engine seats after world → state_of seats s ≡ state → Matches engine.map_before world.maps state session
+    → Stands engine seats after world → seat_state seats s ≡ state → Matches engine.map_before world.maps state session
     → ReadActs engine s page seats after told state → Leads engine after told (read_step world s page session)
 read_acts engine seats after world s page told seat.Out run.Out b is matches acts =
     rests engine seats after world reply.NoTransaction told b acts
@@ -146,7 +146,7 @@ read_acts engine seats after world s page told (seat.Refused pin) (run.Open tran
 
 -- WRITE
 pub write_acts : (engine : Between) (seats after : List Seat) (world : World) (s page byte : ℕ) (told : Told) (state : State)
-    (session : SessionState) → Stands engine seats after world → state_of seats s ≡ state
+    (session : SessionState) → Stands engine seats after world → seat_state seats s ≡ state
     → Matches engine.map_before world.maps state session
     → WriteActs engine s page byte seats after told state → Leads engine after told (write_step world s page byte session)
 write_acts engine seats after world s page byte told seat.Out run.Out b is matches acts =

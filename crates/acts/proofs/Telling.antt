@@ -28,13 +28,13 @@ use Rattle.engine_spec.specs.Events.{IsOver, pages_after, frames_after, with_rea
 use Rattle.engine_spec.proofs.Laying.{laid-page_size}
 use Rattle.page_lines.proofs.GoodLines.{lines_whole, laid-store}
 use Rattle.engine_spec.proofs.Laying.{legal_size}
-use Rattle.acts.specs.Standing.{TellsOf, PinStands}
+use Rattle.acts.specs.Standing.{TellsMaps, PinStands}
 
 -- where nothing but the faults, the logs, their readers and the disk's past changed, all stays
 pub tells_as : (old new : EngineState) (maps : List PageMap) (history : List Commit) (faults : ℕ) (logs : Option TwoLogs) (readers : Readers)
     (disk : Option History) → new ≡ record old { faults = faults; logs = logs; readers = readers; disk = disk }
-    → TellsOf old maps history → TellsOf new maps history
-tells_as old new maps history faults logs readers disk is tells = subst (λ (s : EngineState). TellsOf s maps history) (sym is) (record {
+    → TellsMaps old maps history → TellsMaps new maps history
+tells_as old new maps history faults logs readers disk is tells = subst (λ (s : EngineState). TellsMaps s maps history) (sym is) (record {
   history_is = tells.history_is;
   newest = tells.newest;
   store = tells.store;
@@ -46,11 +46,11 @@ tells_as old new maps history faults logs readers disk is tells = subst (λ (s :
 
 -- where the readers of the logs changed, if there are some, all stays
 pub tells_readers : (old new : EngineState) (maps : List PageMap) (history : List Commit) (change : ℕ → ℕ) (lock : Lock)
-    → new ≡ with_readers change lock old → TellsOf old maps history → TellsOf new maps history
+    → new ≡ with_readers change lock old → TellsMaps old maps history → TellsMaps new maps history
 tells_readers old new maps history change lock is tells =
-    subst (λ (s : EngineState). TellsOf s maps history) (sym is) (by_test (old.always_begins && is_some old.logs))
+    subst (λ (s : EngineState). TellsMaps s maps history) (sym is) (by_test (old.always_begins && is_some old.logs))
   where
-    by_test : (test : Bool) → TellsOf (cond test (record old { readers = change_readers change old.readers lock }) old) maps history
+    by_test : (test : Bool) → TellsMaps (cond test (record old { readers = change_readers change old.readers lock }) old) maps history
     by_test true = tells_as old _ maps history old.faults old.logs (change_readers change old.readers lock) old.disk refl tells
     by_test false = tells
 
@@ -101,8 +101,8 @@ laid_size pages change none images store =
 pub tells_more : (old new : EngineState) (maps : List PageMap) (history : List Commit) (change : Change) (commit : Commit)
     → change.fresh ≡ [] → change.tail ≡ false → AreImages old.page_size change.changed
     → new.history ≡ old.history ++ commit ∷ [] → new.newest ≡ option_map (λ (pages : PageMap). laid pages change) old.newest
-    → new.size ≡ pages_after old change → new.page_size ≡ old.page_size → new.stopped ≡ old.stopped → TellsOf old maps history
-    → TellsOf new (maps ++ laid (get_or maps (length history) []) change ∷ []) (history ++ commit ∷ [])
+    → new.size ≡ pages_after old change → new.page_size ≡ old.page_size → new.stopped ≡ old.stopped → TellsMaps old maps history
+    → TellsMaps new (maps ++ laid (get_or maps (length history) []) change ∷ []) (history ++ commit ∷ [])
 tells_more old new maps history change commit fresh tail images is_history is_newest is_size is_page_size is_stopped tells =
     let newest = get_or maps (length history) [] in
     let next = laid newest change in
@@ -151,7 +151,7 @@ few_images s images are =
         omega arith
 
 -- where there are no logs, a change of page lines passes no limit
-pub not_over : (seen : EngineState) (maps : List PageMap) (history : List Commit) (change : Change) → TellsOf seen maps history
+pub not_over : (seen : EngineState) (maps : List PageMap) (history : List Commit) (change : Change) → TellsMaps seen maps history
     → seen.logs ≡ None → change.fresh ≡ [] → change.freed ≡ [] → AreImages seen.page_size change.changed → IsOver seen change → ⊥
 not_over seen maps history change tells no_logs fresh freed images over = elim over [
   | inl pages ↦

@@ -29,9 +29,9 @@ use Rattle.acts.specs.declared.seats.State.TheVariants.{Out, Open, Refused}
 use Rattle.acts.specs.declared.seats.Transaction.{Transaction}
 
 -- how a session stands; one that never acted is out of a transaction
-abbrev pub state_of : List Seat → ℕ → State
-state_of [] session = Out
-state_of (seat ∷ seats) session = if seat.session == session then seat.state else state_of seats session
+abbrev pub seat_state : List Seat → ℕ → State
+seat_state [] session = Out
+seat_state (seat ∷ seats) session = if seat.session == session then seat.state else seat_state seats session
 
 -- how many transactions a session has begun
 abbrev pub begun_of : List Seat → ℕ → ℕ
@@ -119,8 +119,8 @@ pub record Between : Type 1 where
   pub map_after : Pin → Option PageMap
 
 -- the same of an engine, by all that it tells
-abbrev pub between : {E M : Type 0} → Ghosts E M → E → E → Between
-between told old new = record {
+abbrev pub told_between : {E M : Type 0} → Ghosts E M → E → E → Between
+told_between told old new = record {
   opened = told.opened old;
   old = told.state old;
   new = told.state new;
@@ -133,8 +133,8 @@ abbrev pub Same : Between → List Seat → List Seat → Told → Told → Type
 Same engine before after answer told = (told ≡ answer) × (after ≡ before) × (engine.new ≡ engine.old)
 
 -- A COMMIT of page lines is refused so. They make and free no page, so no page of the freelist is read that might break its form.
-abbrev pub Refuses : (Opening → Type 0) → EngineState → Submitted → CommitFault → EngineState → Type 0
-Refuses opened before asked why after = RefusesCommit opened (Unit {0}) before asked why after
+abbrev pub RefusesLines : (Opening → Type 0) → EngineState → Submitted → CommitFault → EngineState → Type 0
+RefusesLines opened before asked why after = RefusesCommit opened (Unit {0}) before asked why after
 
 -- BEGIN
 abbrev pub BeginActs : Between → ℕ → List Seat → List Seat → Told → State → Type 0
@@ -186,17 +186,17 @@ CommitOpen engine session before after transaction (reply.Done receipt) =
     × (after ≡ with_state before session Out)
 CommitOpen engine session before after transaction (reply.Busy page number) =
     During engine.old
-    (λ mid. Refuses engine.opened mid (submitted_of before session transaction) (fault.BusySnapshot page number) engine.new)
+    (λ mid. RefusesLines engine.opened mid (submitted_of before session transaction) (fault.BusySnapshot page number) engine.new)
     × (after ≡ with_state before session (Refused transaction.pin))
 CommitOpen engine session before after transaction reply.Disk =
-    During engine.old (λ mid. Refuses engine.opened mid (submitted_of before session transaction) fault.Disk engine.new)
+    During engine.old (λ mid. RefusesLines engine.opened mid (submitted_of before session transaction) fault.Disk engine.new)
     × (after ≡ before)
 CommitOpen engine session before after transaction (reply.Stopped log at) =
-    During engine.old (λ mid. Refuses engine.opened mid (submitted_of before session transaction) (fault.Stopped log at) engine.new)
+    During engine.old (λ mid. RefusesLines engine.opened mid (submitted_of before session transaction) (fault.Stopped log at) engine.new)
     × (after ≡ before)
 CommitOpen engine session before after transaction (reply.Size pages) =
     ((frames : ℕ) × During engine.old
-    (λ mid. Refuses engine.opened mid (submitted_of before session transaction) (fault.SizeLimit pages frames) engine.new))
+    (λ mid. RefusesLines engine.opened mid (submitted_of before session transaction) (fault.SizeLimit pages frames) engine.new))
     × (after ≡ before)
 CommitOpen engine session before after transaction reply.Ok = ⊥
 CommitOpen engine session before after transaction (reply.Byte byte) = ⊥
@@ -244,12 +244,12 @@ CopyActs engine told = (answers : List Ckpt) × Copies engine.opened answers eng
 
 -- An act over an engine: what it is answered, and what becomes of the sessions and of the engine.
 abbrev pub Acts : Between → List Seat → Act → Told → List Seat → Type 0
-Acts engine before (act.Begin session) told after = BeginActs engine session before after told (state_of before session)
-Acts engine before (act.Read session page) told after = ReadActs engine session page before after told (state_of before session)
+Acts engine before (act.Begin session) told after = BeginActs engine session before after told (seat_state before session)
+Acts engine before (act.Read session page) told after = ReadActs engine session page before after told (seat_state before session)
 Acts engine before (act.Write session page byte) told after =
-    WriteActs engine session page byte before after told (state_of before session)
-Acts engine before (act.Commit session) told after = CommitActs engine session before after told (state_of before session)
-Acts engine before (act.Rollback session) told after = RollbackActs engine session before after told (state_of before session)
+    WriteActs engine session page byte before after told (seat_state before session)
+Acts engine before (act.Commit session) told after = CommitActs engine session before after told (seat_state before session)
+Acts engine before (act.Rollback session) told after = RollbackActs engine session before after told (seat_state before session)
 Acts engine before act.Step told after = StepActs engine told × (after ≡ before)
 Acts engine before act.Copy told after = CopyActs engine told × (after ≡ before)
 Acts engine before act.Logs told after = (after ≡ before)

@@ -12,10 +12,10 @@ use Rattle.acts.specs.declared.seats.Seat.{Seat}
 use Rattle.acts.specs.declared.seats.State.{State}
 use Rattle.acts.specs.declared.seats.State.TheVariants as seat
 use Rattle.acts.specs.declared.seats.Transaction.{Transaction}
-use Rattle.acts.specs.Pagers.{state_of, begun_of}
+use Rattle.acts.specs.Pagers.{seat_state, begun_of}
 
 -- The engine tells of the last of these maps, which is a page store, and of these commits. No write of a log failed.
-pub record TellsOf (seen : EngineState) (maps : List PageMap) (history : List Commit) : Type 0 where
+pub record TellsMaps (seen : EngineState) (maps : List PageMap) (history : List Commit) : Type 0 where
   pub history_is : seen.history ≡ history
   pub newest : seen.newest ≡ Some (slice_index_or maps (length history) [])
   pub store : IsPageStore (slice_index_or maps (length history) [])
@@ -31,7 +31,7 @@ pub record PinStands (map_at : Pin → Option PageMap) (maps : List PageMap) (pi
   pub map : map_at pin ≡ Some (slice_index_or maps pin.n [])
 
 -- What a session holds of its transaction is what the world has of it.
-pub record IsTransaction (held : Transaction) (transaction : run.Transaction) : Type 0 where
+pub record IsTransaction (held : Transaction) (transaction : run.PageTransaction) : Type 0 where
   pub snap : transaction.snap ≡ held.pin.n
   pub reads : transaction.reads ≡ held.reads
   pub changed : transaction.changed ≡ held.changed
@@ -52,6 +52,6 @@ Matches map_at maps (seat.Refused pin) (run.Open transaction) = ⊥
 
 -- The engine tells of the world's maps and commits, and each session stands, and has begun as often, as the world says.
 pub record StandsAt (seen : EngineState) (map_at : Pin → Option PageMap) (seats : List Seat) (world : World) : Type 0 where
-  pub tells : TellsOf seen world.maps world.history
-  pub sessions : (session : ℕ) → Matches map_at world.maps (state_of seats session) (world.sessions session)
+  pub tells : TellsMaps seen world.maps world.history
+  pub sessions : (session : ℕ) → Matches map_at world.maps (seat_state seats session) (world.sessions session)
   pub begun : (session : ℕ) → world.begun session ≡ begun_of seats session

@@ -21,7 +21,7 @@ use Rattle.acts.specs.declared.seats.State.TheVariants.{Out, Open, Refused}
 use Rattle.acts.specs.declared.seats.Transaction.{Transaction}
 use Rattle.acts.specs.declared.turns.Deed.{Deed}
 use Rattle.acts.specs.declared.turns.Deed.TheVariants.{Read, Write, Commit, Rollback}
-use Rattle.acts.specs.Pagers.{Between, state_of, begun_of, with_state, new_transaction}
+use Rattle.acts.specs.Pagers.{Between, seat_state, begun_of, with_state, new_transaction}
 
 -- the act of a session that asks this
 abbrev pub act_of : ℕ → Deed → Act
@@ -32,7 +32,7 @@ act_of session Rollback = act.Rollback session
 
 -- A session, which has begun so many transactions, went from one state to another, and nothing else changed.
 pub record Moves (before : List Seat) (session ordinal : ℕ) (old new : State) (after : List Seat) : Type 0 where
-  pub state : state_of before session ≡ old
+  pub state : seat_state before session ≡ old
   pub begun : begun_of before session ≡ ordinal
   pub put : after ≡ with_state before session new
   pub rests : new ≡ old → after ≡ before
@@ -55,23 +55,23 @@ pub record SwapsPins {E M : Type 0} (told : Ghosts E M) (old : E) (olds : List P
   pub page_size : (told.state new).page_size ≡ (told.state old).page_size
 
 -- how a session stands after COMMIT of its transaction was refused, and what it is told
-abbrev pub IsRefused : CommitFault → Transaction → State → Result Told AllocError → Type 0
-IsRefused (fault.Stopped log at) transaction new told = (told ≡ Ok (reply.Stopped log at)) × (new ≡ Open transaction)
-IsRefused (fault.BusySnapshot page number) transaction new told = (told ≡ Ok (reply.Busy page number)) × (new ≡ Refused transaction.pin)
-IsRefused (fault.SizeLimit pages frames) transaction new told = (told ≡ Ok (reply.Size pages)) × (new ≡ Open transaction)
-IsRefused fault.Memory transaction new told = (told ≡ Err alloc_error) × (new ≡ Open transaction)
-IsRefused fault.Disk transaction new told = (told ≡ Ok reply.Disk) × (new ≡ Open transaction)
-IsRefused (fault.Corrupt page) transaction new told = ⊥
+abbrev pub StandsRefused : CommitFault → Transaction → State → Result Told AllocError → Type 0
+StandsRefused (fault.Stopped log at) transaction new told = (told ≡ Ok (reply.Stopped log at)) × (new ≡ Open transaction)
+StandsRefused (fault.BusySnapshot page number) transaction new told = (told ≡ Ok (reply.Busy page number)) × (new ≡ Refused transaction.pin)
+StandsRefused (fault.SizeLimit pages frames) transaction new told = (told ≡ Ok (reply.Size pages)) × (new ≡ Open transaction)
+StandsRefused fault.Memory transaction new told = (told ≡ Err alloc_error) × (new ≡ Open transaction)
+StandsRefused fault.Disk transaction new told = (told ≡ Ok reply.Disk) × (new ≡ Open transaction)
+StandsRefused (fault.Corrupt page) transaction new told = ⊥
 
 -- a session has begun a transaction, which changed nothing else of the engine that is told
-abbrev pub HasBegun : Between → Seat → Seat → Type 0
-HasBegun engine old new = (pin : Pin)
+abbrev pub SeatHasBegun : Between → Seat → Seat → Type 0
+SeatHasBegun engine old new = (pin : Pin)
     × During engine.old (λ mid. (begun : EngineState) × Begins mid pin begun × Later begun engine.new
     × (engine.map_after pin ≡ mid.newest))
     × (new ≡ record { session = old.session; begun = one_more old.begun; state = Open (new_transaction pin) })
 
 -- BEGIN of a session that has a seat, by how it stands
 abbrev pub IsBegun : Between → Seat → Seat → Told → State → Type 0
-IsBegun engine old new told Out = (told ≡ reply.Ok) × HasBegun engine old new
+IsBegun engine old new told Out = (told ≡ reply.Ok) × SeatHasBegun engine old new
 IsBegun engine old new told (Open transaction) = (told ≡ reply.InTransaction) × (new ≡ old) × (engine.new ≡ engine.old)
 IsBegun engine old new told (Refused pin) = (told ≡ reply.MustRollBack) × (new ≡ old) × (engine.new ≡ engine.old)

@@ -6,7 +6,7 @@ ghost use Rattle.engine_spec.specs.declared.pins.Pin.{Pin};
 ghost use Rattle.engine_spec.specs.State.{During};
 ghost use Rattle.page_face.specs.Calls.{KeepsOpenings, KeepsRuns};
 ghost use Rattle.page_lines.specs.Range.{IsInRange};
-ghost use Rattle.acts.specs.Pagers.{Acts, AreSound, between, EndsAll, pins_of};
+ghost use Rattle.acts.specs.Pagers.{Acts, AreSound, told_between, EndsAll, pins_of};
 ghost use Rattle.acts.specs.Turns.{act_of, SwapsPins};
 
 use crate::seats::{Seat, State};
@@ -55,7 +55,7 @@ impl Pagers {
         requires sound { AreSound (E.state engine.old).page_size self.old }
         requires live { (others : List Pin) × E.live engine.old (pins_of self.old ++ others) }
 
-        ensures acts { IfOk result (λ told. Acts (between E.EngineTells engine.old engine.new) self.old act told self.new) }
+        ensures acts { IfOk result (λ told. Acts (told_between E.EngineTells engine.old engine.new) self.old act told self.new) }
 
         // Want of memory leaves the sessions as they were, and of the engine all but its count of faults.
         ensures want { OnErr result (self.new ≡ self.old) }
@@ -113,7 +113,7 @@ fn act_on<E: Engine<Raw>>(
     requires range { IsInRange act }
     requires sound { AreSound (E.state engine.old).page_size seats.old.items }
     requires live { (others : List Pin) × E.live engine.old (pins_of seats.old.items ++ others) }
-    ensures acts { IfOk result (λ told. Acts (between E.EngineTells engine.old engine.new) seats.old.items act told seats.new.items) }
+    ensures acts { IfOk result (λ told. Acts (told_between E.EngineTells engine.old engine.new) seats.old.items act told seats.new.items) }
     ensures want { OnErr result (seats.new.items ≡ seats.old.items) }
     ensures wanting { OnErr result (During (E.state engine.old) (λ mid. E.state engine.new ≡ mid)) }
     ensures sound { AreSound (E.state engine.new).page_size seats.new.items }
@@ -154,7 +154,7 @@ fn in_seat<E: Engine<Raw>>(
     requires range { IsInRange (act_of session deed) }
     requires sound { AreSound (E.state engine.old).page_size seats.old.items }
     requires live { (others : List Pin) × E.live engine.old (pins_of seats.old.items ++ others) }
-    ensures acts { IfOk result (λ told. Acts (between E.EngineTells engine.old engine.new) seats.old.items (act_of session deed) told seats.new.items) }
+    ensures acts { IfOk result (λ told. Acts (told_between E.EngineTells engine.old engine.new) seats.old.items (act_of session deed) told seats.new.items) }
     ensures want { OnErr result (seats.new.items ≡ seats.old.items) }
     ensures wanting { OnErr result (During (E.state engine.old) (λ mid. E.state engine.new ≡ mid)) }
     ensures sound { AreSound (E.state engine.new).page_size seats.new.items }
@@ -177,7 +177,7 @@ fn begin<E: Engine<Raw>>(
     requires pages { 16 ≤ (E.state engine.old).size }
     requires sound { AreSound (E.state engine.old).page_size seats.old.items }
     requires live { (others : List Pin) × E.live engine.old (pins_of seats.old.items ++ others) }
-    ensures acts { IfOk result (λ told. Acts (between E.EngineTells engine.old engine.new) seats.old.items (act.Begin session) told seats.new.items) }
+    ensures acts { IfOk result (λ told. Acts (told_between E.EngineTells engine.old engine.new) seats.old.items (act.Begin session) told seats.new.items) }
     ensures want { OnErr result (seats.new.items ≡ seats.old.items) }
     ensures wanting { OnErr result (E.state engine.new ≡ E.state engine.old) }
     ensures sound { AreSound (E.state engine.new).page_size seats.new.items }

@@ -11,19 +11,19 @@ use sqlite_items::Items;
 use std::alloc::{AllocError, Global};
 
 // The text of a read. The error is want of memory.
-fn read_line(alloc: Global, page: u32) -> Result<Txt, AllocError>
+fn text_of_read(alloc: Global, page: u32) -> Result<Txt, AllocError>
     ensures { IfOk result (λ text. text ≡ read_text page) }
 {
     let text = format!(in alloc; "READ {page}")?;
-    Txt::of(alloc, text.as_bytes())
+    Ok(Txt::from_vec(text.into_bytes()))
 }
 
 // The text of a write. The error is want of memory.
-fn write_line(alloc: Global, page: u32, byte: u8) -> Result<Txt, AllocError>
+fn text_of_write(alloc: Global, page: u32, byte: u8) -> Result<Txt, AllocError>
     ensures { IfOk result (λ text. text ≡ write_text page byte) }
 {
     let text = format!(in alloc; "WRITE {page} {byte}")?;
-    Txt::of(alloc, text.as_bytes())
+    Ok(Txt::from_vec(text.into_bytes()))
 }
 
 /// The first byte of the page as these images have it, or none where they don't have the page.
@@ -68,7 +68,7 @@ impl Transaction {
         ensures ok { OnOk result (self.new ≡ after_own self.old page) }
         ensures err { OnErr result (self.new ≡ self.old) }
     {
-        let text = read_line(alloc, page)?;
+        let text = text_of_read(alloc, page)?;
         self.said.push(text)
     }
 
@@ -77,7 +77,7 @@ impl Transaction {
         ensures ok { OnOk result (self.new ≡ after_fetch self.old page) }
         ensures err { OnErr result (self.new ≡ self.old) }
     {
-        let text = read_line(alloc, page)?;
+        let text = text_of_read(alloc, page)?;
         self.said.push(text)?;
         match self.reads.add(page) {
             Ok(()) => Ok(()),
@@ -99,7 +99,7 @@ impl Transaction {
         ensures ok { OnOk result (self.new ≡ after_write page_size self.old page byte) }
         ensures err { OnErr result (self.new ≡ self.old) }
     {
-        let text = write_line(alloc, page, byte)?;
+        let text = text_of_write(alloc, page, byte)?;
         let bytes = filled(alloc, page_size, byte)?;
         self.said.push(text)?;
         match put_image(&mut self.changed, page, bytes) {
@@ -120,5 +120,5 @@ fn filled(alloc: Global, page_size: usize, byte: u8) -> Result<Bytes, AllocError
     ensures { IfOk result (λ bytes. bytes ≡ replicate page_size byte) }
 {
     let bytes = vec![in alloc; byte; page_size]?;
-    Bytes::of(alloc, bytes.as_slice())
+    Ok(Bytes::from_vec(bytes))
 }

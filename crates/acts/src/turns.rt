@@ -6,13 +6,13 @@ ghost use Rattle.engine_spec.specs.Change.{image_of};
 ghost use Rattle.engine_spec.specs.TwoLogs.{told_logs};
 ghost use Rattle.engine_spec.specs.State.{During};
 ghost use Rattle.engine_spec.specs.Events.{FailsAlone, FailsInStep, Checkpoints};
-ghost use Rattle.page_face.specs.Calls.{IsWhole};
+ghost use Rattle.page_face.specs.Calls.{IsWholeEngine};
 ghost use Rattle.page_face.specs.Pins.{IsLive};
 ghost use Rattle.acts.specs.declared.seats.Seat.{Seat};
 ghost use Rattle.acts.specs.declared.seats.State.TheVariants as state;
 ghost use Rattle.page_lines.specs.Range.{IsInRange};
-ghost use Rattle.acts.specs.Pagers.{Acts, between, EndsAll, ReadOpen, FetchOpen, CommitOpen, IsSoundState, IsSoundTransaction, pins_in, StepActs, CopyActs, IsLast};
-ghost use Rattle.acts.specs.Turns.{act_of, Moves, AllLive, SwapsPins, IsRefused, HasBegun, IsBegun};
+ghost use Rattle.acts.specs.Pagers.{Acts, told_between, EndsAll, ReadOpen, FetchOpen, CommitOpen, IsSoundState, IsSoundTransaction, pins_in, StepActs, CopyActs, IsLast};
+ghost use Rattle.acts.specs.Turns.{act_of, Moves, AllLive, SwapsPins, StandsRefused, SeatHasBegun, IsBegun};
 ghost use Rattle.engine_spec.specs.declared.pins.Pin.{Pin};
 ghost use Rattle.page_lines.specs.declared.lines.Told.TheVariants as reply;
 
@@ -105,7 +105,7 @@ impl Transaction {
         requires live { IsLive E.live engine.old self.old.pin }
         ensures acts { IfOk result (λ told. (before after : List Seat) (session ordinal : ℕ)
             → Moves before session ordinal (state.Open self.old) (state.Open self.new) after
-            → FetchOpen (between E.EngineTells engine.old engine.new) session page before after told self.old) }
+            → FetchOpen (told_between E.EngineTells engine.old engine.new) session page before after told self.old) }
         ensures want { OnErr result (self.new ≡ self.old) }
         ensures wanting { OnErr result (During (E.state engine.old) (λ mid. E.state engine.new ≡ mid)) }
         ensures sound { IsSoundTransaction (E.state engine.new).page_size self.new }
@@ -134,7 +134,7 @@ impl Transaction {
         requires live { IsLive E.live engine.old self.old.pin }
         ensures acts { IfOk result (λ told. (before after : List Seat) (session ordinal : ℕ)
             → Moves before session ordinal (state.Open self.old) (state.Open self.new) after
-            → ReadOpen (between E.EngineTells engine.old engine.new) session page before after told self.old
+            → ReadOpen (told_between E.EngineTells engine.old engine.new) session page before after told self.old
             (image_of self.old.changed page)) }
         ensures want { OnErr result (self.new ≡ self.old) }
         ensures wanting { OnErr result (During (E.state engine.old) (λ mid. E.state engine.new ≡ mid)) }
@@ -164,7 +164,7 @@ impl Transaction {
         requires live { IsLive E.live engine.old self.pin }
         ensures acts { IfOk result.1 (λ told. (before after : List Seat)
             → Moves before who.session who.ordinal (state.Open self) result.0 after
-            → CommitOpen (between E.EngineTells engine.old engine.new) who.session before after self told) }
+            → CommitOpen (told_between E.EngineTells engine.old engine.new) who.session before after self told) }
         ensures want { OnErr result.1 (result.0 ≡ state.Open self) }
         ensures wanting { OnErr result.1 (During (E.state engine.old) (λ mid. E.state engine.new ≡ mid)) }
         ensures sound { IsSoundState (E.state engine.new).page_size result.0 }
@@ -213,7 +213,7 @@ impl Transaction {
         requires live { IsLive E.live engine.old self.pin }
         ensures acts { IfOk result.1 (λ told. (before after : List Seat)
             → Moves before who.session who.ordinal (state.Open self) result.0 after
-            → Acts (between E.EngineTells engine.old engine.new) before (act_of who.session deed) told after) }
+            → Acts (told_between E.EngineTells engine.old engine.new) before (act_of who.session deed) told after) }
         ensures want { OnErr result.1 (result.0 ≡ state.Open self) }
         ensures wanting { OnErr result.1 (During (E.state engine.old) (λ mid. E.state engine.new ≡ mid)) }
         ensures sound { IsSoundState (E.state engine.new).page_size result.0 }
@@ -245,7 +245,7 @@ fn after_refusal(
     prepared: Prepared<Raw>,
 ) -> (State, Result<Told, AllocError>)
     requires { (page : ℕ) → why ≢ fault.Corrupt page }
-    ensures { IsRefused why (record { pin = pin; reads = prepared.reads; changed = prepared.changed; said = prepared.said; wrote = prepared.wrote }) result.0 result.1 }
+    ensures { StandsRefused why (record { pin = pin; reads = prepared.reads; changed = prepared.changed; said = prepared.said; wrote = prepared.wrote }) result.0 result.1 }
 {
     match why {
         CommitFault::BusySnapshot { page, commit } => {
@@ -276,7 +276,7 @@ fn back(pin: Pin, prepared: Prepared<Raw>) -> State
 fn turn_refused<E: Engine<Raw>>(engine: &mut E, pin: Pin, session: u32, deed: Deed) -> (State, Told)
     requires live { IsLive E.live engine.old pin }
     ensures acts { (before after : List Seat) (ordinal : ℕ) → Moves before session ordinal (state.Refused pin) result.0 after
-        → Acts (between E.EngineTells engine.old engine.new) before (act_of session deed) result.1 after }
+        → Acts (told_between E.EngineTells engine.old engine.new) before (act_of session deed) result.1 after }
     ensures sound { (page_size : ℕ) → IsSoundState page_size result.0 }
     ensures stays { SwapsPins E.EngineTells engine.old (pin ∷ []) engine.new (pins_in result.0) }
 {
@@ -305,7 +305,7 @@ impl Seat {
         requires live { AllLive E.live engine.old (pins_in self.old.state) }
         ensures acts { IfOk result (λ told. (before after : List Seat)
             → Moves before self.old.session self.old.begun self.old.state self.new.state after
-            → Acts (between E.EngineTells engine.old engine.new) before (act_of self.old.session deed) told after) }
+            → Acts (told_between E.EngineTells engine.old engine.new) before (act_of self.old.session deed) told after) }
         ensures want { OnErr result (self.new ≡ self.old) }
         ensures wanting { OnErr result (During (E.state engine.old) (λ mid. E.state engine.new ≡ mid)) }
         ensures session { self.new.session ≡ self.old.session }
@@ -334,11 +334,11 @@ impl Seat {
 
     /// Begins a transaction of a session that is out of one.
     pub fn begin_out<E: Engine<Raw>>(&mut self, engine: &mut E, alloc: Global)
-        requires whole { IsWhole E.EngineTells engine.old }
+        requires whole { IsWholeEngine E.EngineTells engine.old }
         requires may { E.may_begin engine.old }
         requires pages { 16 ≤ (E.state engine.old).size }
         requires out { self.old.state ≡ state.Out }
-        ensures begun { HasBegun (between E.EngineTells engine.old engine.new) self.old self.new }
+        ensures begun { SeatHasBegun (told_between E.EngineTells engine.old engine.new) self.old self.new }
         ensures sound { IsSoundState (E.state engine.new).page_size self.new.state }
         ensures stays { SwapsPins E.EngineTells engine.old [] engine.new (pins_in self.new.state) }
     {
@@ -355,11 +355,11 @@ impl Seat {
 
     /// Begins a transaction of a session that has acted before.
     pub fn begin_again<E: Engine<Raw>>(&mut self, engine: &mut E, alloc: Global) -> Told
-        requires whole { IsWhole E.EngineTells engine.old }
+        requires whole { IsWholeEngine E.EngineTells engine.old }
         requires may { E.may_begin engine.old }
         requires pages { 16 ≤ (E.state engine.old).size }
         requires sound { IsSoundState (E.state engine.old).page_size self.old.state }
-        ensures begun { IsBegun (between E.EngineTells engine.old engine.new) self.old self.new result self.old.state }
+        ensures begun { IsBegun (told_between E.EngineTells engine.old engine.new) self.old self.new result self.old.state }
         ensures sound { IsSoundState (E.state engine.new).page_size self.new.state }
         ensures stays { SwapsPins E.EngineTells engine.old (pins_in self.old.state) engine.new (pins_in self.new.state) }
     {
@@ -376,8 +376,8 @@ impl Seat {
 
 /// Takes one step of a checkpoint.
 pub fn step<E: Engine<Raw>>(engine: &mut E) -> Told
-    requires whole { IsWhole E.EngineTells engine.old }
-    ensures acts { StepActs (between E.EngineTells engine.old engine.new) result }
+    requires whole { IsWholeEngine E.EngineTells engine.old }
+    ensures acts { StepActs (told_between E.EngineTells engine.old engine.new) result }
     ensures stays { SwapsPins E.EngineTells engine.old [] engine.new [] }
 {
     match checkpoint(engine) {
@@ -388,7 +388,7 @@ pub fn step<E: Engine<Raw>>(engine: &mut E) -> Told
 
 /// Says how the logs stand.
 pub fn logs<E: Engine<Raw>>(engine: &mut E) -> Told
-    requires whole { IsWhole E.EngineTells engine.old }
+    requires whole { IsWholeEngine E.EngineTells engine.old }
     ensures acts { During (E.state engine.old)
         (λ mid. (result ≡ reply.Logs (told_logs mid.logs mid.history)) × (E.state engine.new ≡ mid)) }
     ensures stays { SwapsPins E.EngineTells engine.old [] engine.new [] }
@@ -398,9 +398,9 @@ pub fn logs<E: Engine<Raw>>(engine: &mut E) -> Told
 
 /// Takes steps of a checkpoint until one copies no page.
 pub fn copy<E: Engine<Raw>>(engine: &mut E) -> Told
-    requires whole { IsWhole E.EngineTells engine.old }
+    requires whole { IsWholeEngine E.EngineTells engine.old }
     requires always { (E.state engine.old).always_begins ≡ true }
-    ensures acts { CopyActs (between E.EngineTells engine.old engine.new) result }
+    ensures acts { CopyActs (told_between E.EngineTells engine.old engine.new) result }
     ensures stays { SwapsPins E.EngineTells engine.old [] engine.new [] }
 {
     let mut last = 0;
@@ -420,7 +420,7 @@ pub fn copy<E: Engine<Raw>>(engine: &mut E) -> Told
 
 // Takes one step of a checkpoint.
 fn checkpoint<E: Engine<Raw>>(engine: &mut E) -> Result<Ckpt, Failed>
-    requires whole { IsWhole E.EngineTells engine.old }
+    requires whole { IsWholeEngine E.EngineTells engine.old }
     ensures answer { MatchResult result
         (λ done. During (E.state engine.old) (λ mid. Checkpoints (E.opened engine.old) mid done (E.state engine.new)))
         (λ _. During (E.state engine.old) (λ mid. FailsInStep (E.opened engine.old) mid (E.state engine.new))) }

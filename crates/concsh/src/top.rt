@@ -3,7 +3,7 @@ ghost use Rattle.std.specs.Prelude.{◌≡◌, ℕ, [], ◌∷◌, ◌⊎◌, �
 ghost use Rattle.disk_face.specs.Faults.{Rose};
 ghost use Rattle.page_lines.specs.Legal.{IsLegalFrom};
 ghost use Rattle.page_lines.specs.Serial.{IsSerial};
-ghost use Rattle.page_lines.specs.World.{zeros, start, after};
+ghost use Rattle.page_lines.specs.World.{zeros, start, world_after};
 ghost use Rattle.page_runs.specs.declared.status.Status.TheVariants as status;
 ghost use Rattle.page_runs.specs.Outcome.{IsPages, acts_run, run_of, status_of, words_refused, RunEnds, SaysLast};
 ghost use Rattle.page_runs.specs.Status.{code_of, EndsWith};
@@ -43,7 +43,7 @@ pub fn top<D: Disk, S: Source, K: Sink, W: Salts>(
 
     // At each moment the history is legal: each commit leads from one map to the next.
     ensures legal { IsPages words.now → IfSome (S.left src.old) (λ script.
-        (count : ℕ) → IsLegalFrom zeros (after start (take count (acts_run script)))) }
+        (count : ℕ) → IsLegalFrom zeros (world_after start (take count (acts_run script)))) }
 
     // No words that there are make use of the disk or of random words.
     ensures untouched { (disk.new ≡ disk.old) × (salts.new ≡ salts.old) }

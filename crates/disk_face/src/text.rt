@@ -36,6 +36,13 @@ impl Bytes {
         Ok(Bytes { items })
     }
 
+    /// These bytes themselves, which aren't copied.
+    pub fn from_vec(items: Vec<u8>) -> Bytes
+        ensures { result ≡ items.items }
+    {
+        Bytes { items }
+    }
+
     /// All the bytes.
     pub fn bytes(&self) -> &[u8]
         ensures { result.now ≡ self.now }
@@ -65,6 +72,13 @@ impl Txt {
     {
         let items = Vec::from_slice(alloc, from)?;
         Ok(Txt { items })
+    }
+
+    /// These bytes themselves, which aren't copied.
+    pub fn from_vec(items: Vec<u8>) -> Txt
+        ensures { result ≡ items.items }
+    {
+        Txt { items }
     }
 
     /// All the bytes.

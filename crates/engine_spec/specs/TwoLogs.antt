@@ -2,6 +2,8 @@
 use Rattle.std.specs.Prelude.{◌≡◌, ◌⊎◌, ◌↔◌, ℕ, ◌+◌, ◌-◌, ◌*◌, ◌%◌, ◌<◌, ◌≤◌, Bool, true, false, ◌==◌, ◌&&◌, not, if◌then◌else◌, nat_lt, List, length, take, drop, Contains, Option, Some, None}
 use Rattle.std.specs.List.{flat_map}
 use Rattle.disk_face.specs.Faults.{last_count}
+use Rattle.log_spec.specs.LogHeader.{last_generation}
+use Rattle.log_spec.specs.Frames.{place_behind}
 use Rattle.engine_spec.specs.declared.pins.Lock.{Lock}
 use Rattle.engine_spec.specs.declared.pins.Lock.TheVariants.{Part1, Part1Full2, Part2, Part2Full1}
 use Rattle.engine_spec.specs.declared.pins.Readers.{Readers}
@@ -13,10 +15,6 @@ use Rattle.engine_spec.specs.declared.commits.Commit.{Commit}
 -- the most frames that a log has
 abbrev pub frame_limit : ℕ
 frame_limit = 4_294_967_295
-
--- the last generation of a log: from it on none is begun anew
-abbrev pub last_generation : ℕ
-last_generation = 4_000_000_000
 
 -- The number of the current log, its generation, how many commits stand before the first that it holds, how many stand before the
 -- first that the other log holds, whether the other is done, the last page that was copied from it, and how many frames a log takes
@@ -106,10 +104,6 @@ switched logs history = record logs {
 abbrev pub to_write : TwoLogs → Readers → List Commit → TwoLogs
 to_write logs readers history = if may_switch logs readers history then switched logs history else logs
 
--- the offset in bytes behind so many frames of a log with pages of this size
-abbrev pub frame_place : ℕ → ℕ → ℕ
-frame_place page_size count = 32 + count * (24 + page_size)
-
 -- Where a write or sync of a log failed in a commit, and the logs after it.
 -- AtHeader: the header with which the commit would begin the other log anew, at that log's front; the logs stay.
 -- AtFrame: the place of the commit's first frame, in the log that was begun anew where the switch rule held, else in the current one.
@@ -117,7 +111,7 @@ pub data IsStopPlace (page_size : ℕ) (logs : TwoLogs) (readers : Readers) (his
   AtHeader : may_switch logs readers history ≡ true → log ≡ other_log logs → at ≡ 0 → after ≡ logs
       → IsStopPlace page_size logs readers history log at after
   AtFrame : after ≡ to_write logs readers history → log ≡ after.current
-      → at ≡ frame_place page_size (length (current_frames after history)) → IsStopPlace page_size logs readers history log at after
+      → at ≡ place_behind page_size (length (current_frames after history)) → IsStopPlace page_size logs readers history log at after
 
 -- the least page of the other log above the last one copied
 pub record IsNext (logs : TwoLogs) (history : List Commit) (page : ℕ) : Type 0 where

@@ -6,13 +6,21 @@ use Rattle.log_spec.specs.Checksum.{Sum}
 use Rattle.log_spec.specs.LogHeader.{LogFields, log_fields, same_sum, is_signed, foreign_at, header_size}
 use Rattle.log_spec.specs.Accept.{Frame, page_number, commit_size, sum_after}
 
+-- how many bytes stand before the page in a frame
+abbrev pub frame_head_size : ℕ
+frame_head_size = 24
+
 -- how many bytes each frame of a log has
 abbrev pub frame_size : LogFields → ℕ
-frame_size header = 24 + header.page_size
+frame_size header = frame_head_size + header.page_size
+
+-- the place behind so many frames of a log with pages of this size
+abbrev pub place_behind : ℕ → ℕ → ℕ
+place_behind page_size count = header_size + count * (frame_head_size + page_size)
 
 -- the place of the frame that has so many before it, and so the place behind so many frames
 abbrev pub frame_place : LogFields → ℕ → ℕ
-frame_place header count = header_size + count * frame_size header
+frame_place header count = place_behind header.page_size count
 
 -- the place behind a log's header and these frames
 abbrev pub end_of : List Frame → ℕ

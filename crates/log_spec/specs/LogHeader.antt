@@ -63,10 +63,14 @@ is_signed bytes =
     nat_le header_size (length bytes) && (fields.magic == big_magic || fields.magic == little_magic)
     && same_sum fields.sum (checksum (is_big fields) (0, 0) (take summed_size bytes))
 
+-- the last generation of a log: no log is begun anew after it
+abbrev pub last_generation : ℕ
+last_generation = 4_000_000_000
+
 -- a generation of log 1 or log 2: odd in log 1, even in log 2
 unfoldable pub is_generation : ℕ → ℕ → Bool
 is_generation log generation =
-    nat_le 1 generation && nat_le generation 4_000_000_000 && generation % 2 == (if log == 1 then 1 else 0)
+    nat_le 1 generation && nat_le generation last_generation && generation % 2 == (if log == 1 then 1 else 0)
 
 -- a test of a field, and the offset of that field
 pub record FieldTest : Type 0 where

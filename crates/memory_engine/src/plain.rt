@@ -10,7 +10,7 @@ ghost use Rattle.engine_spec.specs.Change.{laid};
 ghost use Rattle.engine_spec.specs.TwoLogs.{frame_limit};
 ghost use Rattle.page_face.specs.Pins.{IsLive};
 ghost use Rattle.page_face.specs.Prepared.{change_in, IsFit};
-ghost use Rattle.page_face.specs.Calls.{HasCommitted};
+ghost use Rattle.page_face.specs.Calls.{HasCommitted, IsGoodForOthers};
 ghost use Rattle.memory_engine.specs.Plain.{newest_of, usable_by, MayAdd, Bars, IsFree, Adds};
 
 use crate::conflict::find_conflict;
@@ -293,6 +293,7 @@ impl<M: Means> Engine<M> for Plain<M> {
     ) -> Result<Receipt, (CommitFault, Prepared<M>)>
         requires live { IsLive ⟦<Plain<M> as EngineTells<M>>⟧.live self.old pin.now }
         requires fit { IsFit (⟦<Plain<M> as EngineTells<M>>⟧.state self.old) pin.now prepared }
+        requires good { IsGoodForOthers M.Means ⟦<Plain<M> as EngineTells<M>>⟧ self.old pin.now prepared }
         ensures { HasCommitted M.Means ⟦<Plain<M> as EngineTells<M>>⟧ self.old pin.now prepared who result self.new }
     {
         let _ = pin;

@@ -2,7 +2,7 @@
 use Rattle.std.proofs.Common.{◌∙◌, refl, arith}
 use Rattle.page_spec.specs.View.{View}
 use Rattle.page_face.specs.declared.pages_tells.PagesTells.{Ghosts}
-use Rattle.page_face.specs.Pages.{KeepsFree, KeepsPages, Editing, Reading}
+use Rattle.page_face.specs.Pages.{KeepsFree, KeepsPages, Editing, ReadsAtMost}
 
 -- what is as before over one world after two calls is so after both
 pub free_join : {P : Type 0} (pages : Ghosts P) (old mid new : P) (world : View) → KeepsFree pages old mid world → KeepsFree pages mid new world
@@ -39,8 +39,8 @@ editing_join pages old mid new one two on = record {
 }
 
 -- two calls in a row read pages
-pub reading_join : {P : Type 0} (pages : Ghosts P) (old mid new : P) → Reading pages old mid → Reading pages mid new
-    → ((first second third : P) → pages.follows first second → pages.follows second third → pages.follows first third) → Reading pages old new
+pub reading_join : {P : Type 0} (pages : Ghosts P) (old mid new : P) → ReadsAtMost pages old mid → ReadsAtMost pages mid new
+    → ((first second third : P) → pages.follows first second → pages.follows second third → pages.follows first third) → ReadsAtMost pages old new
 reading_join pages old mid new one two on = record {
   each = λ world tells. pages_join pages old mid new world (one.each world (two.edits.narrows world tells)) (two.each world tells);
   last = two.last ∙ one.last;
@@ -58,7 +58,7 @@ free_same pages at world = record {
   no_more_spare = λ spare. spare;
 }
 
-pub reading_same : {P : Type 0} (pages : Ghosts P) (at : P) → pages.ready at → pages.follows at at → Reading pages at at
+pub reading_same : {P : Type 0} (pages : Ghosts P) (at : P) → pages.ready at → pages.follows at at → ReadsAtMost pages at at
 reading_same pages at ready follows = record {
   each = λ world tells. record { each = λ number. refl; list = free_same pages at world };
   last = refl;

@@ -1,5 +1,5 @@
 -- What each call does to an engine, said of all that it tells at once.
-use Rattle.std.specs.Prelude.{◌≡◌, ℕ, List, Option, IfSome, Result, Ok, Err, OnOk}
+use Rattle.std.specs.Prelude.{◌≡◌, ℕ, false, List, Option, IfSome, Result, Ok, Err, OnOk}
 use Rattle.disk_face.specs.declared.Failed.{Failed}
 use Rattle.page_spec.specs.PageMap.{PageMap, page_at}
 use Rattle.crash_spec.specs.Opening.{Opening}
@@ -23,8 +23,8 @@ use Rattle.page_face.specs.Pins.{KeepsPins, AddsPin, TakesPin}
 use Rattle.page_face.specs.Prepared.{submitted, IsGood, IsHandedBack}
 
 -- the engine is whole, whatever pins hold in it
-abbrev pub IsWhole : {E M : Type 0} → Ghosts E M → E → Type 0
-IsWhole told engine = (pins : List Pin) × told.live engine pins
+abbrev pub IsWholeEngine : {E M : Type 0} → Ghosts E M → E → Type 0
+IsWholeEngine told engine = (pins : List Pin) × told.live engine pins
 
 -- it stands for some run
 abbrev pub StandsForSome : {E M : Type 0} → Ghosts E M → E → Type 0
@@ -61,6 +61,16 @@ pub record HasFetched {E M : Type 0} (told : Ghosts E M) (old : E) (pin : Pin) (
   pub event : During (told.state old) (λ mid. Fetches mid result (told.state new))
   pub stays : Stays told old new
   pub runs : KeepsRuns told old new
+
+-- the transaction's change is good, over the pin's map, for each run for which the engine stands
+abbrev pub IsGoodForEach : {E M : Type 0} → Meaning M → Ghosts E M → E → Pin → Prepared M → Type 0
+IsGoodForEach means told engine pin prepared = (first : PageMap) → told.stands_from engine first
+    → IfSome (told.map_at engine pin) (λ snapshot. IsGood (means.sound first) (means.leads first) snapshot prepared)
+
+-- What a commit asks of the change's meaning: nothing of an engine to whose store nobody else commits. Of another one it is good for
+-- each run, since whoever shares the store goes on to stand for these.
+abbrev pub IsGoodForOthers : {E M : Type 0} → Meaning M → Ghosts E M → E → Pin → Prepared M → Type 0
+IsGoodForOthers means told engine pin prepared = (told.state engine).alone ≡ false → IsGoodForEach means told engine pin prepared
 
 -- The map on which a commit was laid: it is sound, the statements of the history before the commit lead to it, and the change may
 -- be laid on it.

@@ -4,29 +4,29 @@ use Rattle.page_spec.specs.Header.{database_limit}
 use Rattle.page_spec.specs.View.{View}
 use Rattle.engine_spec.specs.declared.commits.FetchFault.{FetchFault}
 use Rattle.page_face.specs.declared.pages_tells.PagesTells.{Ghosts}
-use Rattle.page_face.specs.Pages.{KeepsPages, PutsPage, TakesPage, GivesUp, Editing, Reading, IsMadeAt, IsGivenAt, IsReadAt, pages_read, IsOutside, BarsFresh, BarsNeat}
+use Rattle.page_face.specs.Pages.{KeepsPages, PutsPage, TakesPage, GivesUp, Editing, ReadsAtMost, IsMadeAt, IsGivenAt, IsReadAt, pages_read, IsFromOutside, BarsFresh, BarsNeat}
 
 -- `fetch`: over each world that is still told the bytes are the page's
 pub record HasRead {P : Type 0} (pages : Ghosts P) (old : P) (page : ℕ) (result : Result Unit FetchFault) (bytes : List ℕ) (new : P) : Type 0 where
   pub page_is : OnOk result ((world : View) → pages.tells new world → bytes ≡ pages.over old world page)
   pub read : OnOk result (pages.reads new ≡ pages_read pages old page)
   pub unread : OnErr result (pages.reads new ≡ pages.reads old)
-  pub cause : IfErr result (λ why. IsOutside (pages.faults old) (pages.faults new) why)
-  pub reading : Reading pages old new
+  pub cause : IfErr result (λ why. IsFromOutside (pages.faults old) (pages.faults new) why)
+  pub reading : ReadsAtMost pages old new
 
 -- `put`
 pub record HasPut {P : Type 0} (pages : Ghosts P) (old : P) (page : ℕ) (bytes : List ℕ) (result : Result Unit FetchFault) (new : P) : Type 0 where
   pub put : OnOk result ((world : View) → pages.tells new world → PutsPage pages old page bytes new world)
   pub has : OnOk result ((number : ℕ) → pages.has new number ≡ (pages.has old number || (number == page)))
-  pub refused : OnErr result (Reading pages old new)
-  pub cause : IfErr result (λ why. IsOutside (pages.faults old) (pages.faults new) why)
+  pub refused : OnErr result (ReadsAtMost pages old new)
+  pub cause : IfErr result (λ why. IsFromOutside (pages.faults old) (pages.faults new) why)
   pub tells : (world : View) → pages.tells new world ↔ pages.tells old world
   pub last : pages.last_page new ≡ pages.last_page old
   pub reads : pages.reads new ≡ pages.reads old
   pub edits : Editing pages old new
 
 -- the page that `fresh` gives out: it comes from a free number, and is the last one now where it follows the last one
-pub record IsFresh {P : Type 0} (pages : Ghosts P) (old : P) (page : ℕ) (new : P) : Type 0 where
+pub record GivesOut {P : Type 0} (pages : Ghosts P) (old : P) (page : ℕ) (new : P) : Type 0 where
   pub above : 1 < page
   pub last : pages.last_page new ≡ max (pages.last_page old) page
   pub fits : pages.last_page old < page → (page ≡ pages.last_page old + 1) × (page * pages.page_size old ≤ database_limit)
@@ -41,7 +41,7 @@ pub record IsBarred {P : Type 0} (pages : Ghosts P) (old : P) (why : FetchFault)
 
 -- `fresh`: beyond what was read and changed before there are free pages alone, and page 1 where the freelist had a page to spare
 pub record HasMade {P : Type 0} (pages : Ghosts P) (old : P) (result : Result ℕ FetchFault) (new : P) : Type 0 where
-  pub made : IfOk result (λ page. IsFresh pages old page new)
+  pub made : IfOk result (λ page. GivesOut pages old page new)
   pub barred : IfErr result (λ why. IsBarred pages old why new)
   pub changed : (world : View) → pages.tells new world → pages.neat old world → (number : ℕ) → pages.has new number ≡ true
       → IsMadeAt pages old world number
@@ -53,7 +53,7 @@ pub record HasMade {P : Type 0} (pages : Ghosts P) (old : P) (result : Result �
 pub record HasGivenUp {P : Type 0} (pages : Ghosts P) (old : P) (page : ℕ) (result : Result Unit FetchFault) (new : P) : Type 0 where
   pub given : OnOk result ((world : View) → pages.tells new world → GivesUp pages old page new world)
   pub refused : OnErr result ((world : View) → pages.tells new world → KeepsPages pages old new world)
-  pub cause : IfErr result (λ why. IsOutside (pages.faults old) (pages.faults new) why)
+  pub cause : IfErr result (λ why. IsFromOutside (pages.faults old) (pages.faults new) why)
   pub last : pages.last_page new ≡ pages.last_page old
   pub changed : (world : View) → pages.tells new world → pages.neat old world → (number : ℕ) → pages.has new number ≡ true
       → IsGivenAt pages old world page number

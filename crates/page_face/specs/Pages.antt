@@ -73,7 +73,7 @@ pub record Editing {P : Type 0} (pages : Ghosts P) (old new : P) : Type 0 where
   pub follows : pages.follows old new
 
 -- Pages were read at most: over each world that is still told all of them are as before, and so are their count and what was changed.
-pub record Reading {P : Type 0} (pages : Ghosts P) (old new : P) : Type 0 where
+pub record ReadsAtMost {P : Type 0} (pages : Ghosts P) (old new : P) : Type 0 where
   pub each : (world : View) → pages.tells new world → KeepsPages pages old new world
   pub last : pages.last_page new ≡ pages.last_page old
   pub has : (number : ℕ) → pages.has new number ≡ pages.has old number
@@ -98,11 +98,11 @@ abbrev pub pages_read : {P : Type 0} → Ghosts P → P → ℕ → List ℕ
 pages_read pages old page = if pages.has old page then pages.reads old else with_page (pages.reads old) page
 
 -- a fault that says nothing of the pages: the disk failed and counted it, or memory ran out
-abbrev pub IsOutside : ℕ → ℕ → FetchFault → Type 0
-IsOutside before after fault.Disk = Rose before after
-IsOutside before after (fault.Corrupt page) = ⊥
-IsOutside before after (fault.Size pages) = ⊥
-IsOutside before after fault.Memory = Unit {0}
+abbrev pub IsFromOutside : ℕ → ℕ → FetchFault → Type 0
+IsFromOutside before after fault.Disk = Rose before after
+IsFromOutside before after (fault.Corrupt page) = ⊥
+IsFromOutside before after (fault.Size pages) = ⊥
+IsFromOutside before after fault.Memory = Unit {0}
 
 -- Why no page could be taken: the page that breaks its form is one that there was, and the size that is told is that with one
 -- page more, which ends past the limit on a database.

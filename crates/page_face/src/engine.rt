@@ -2,7 +2,7 @@
 ghost use Rattle.std.specs.Prelude.{◌≡◌, ◌≤◌, length};
 ghost use Rattle.page_face.specs.Pins.{IsLive};
 ghost use Rattle.page_face.specs.Prepared.{IsFit};
-ghost use Rattle.page_face.specs.Calls.{IsWhole, HasBegun, HasFetched, HasCommitted, HasStepped, HasToldLogs, HasEnded};
+ghost use Rattle.page_face.specs.Calls.{IsWholeEngine, IsGoodForOthers, HasBegun, HasFetched, HasCommitted, HasStepped, HasToldLogs, HasEnded};
 
 use crate::{Ckpt, CommitFault, EngineTells, FetchFault, Logs, Means, Pin, Prepared, Receipt, Who};
 use disk_face::Failed;
@@ -22,7 +22,7 @@ pub trait Engine<M: Means>: EngineTells<M> {
 
     /// Pins the newest map. It takes no memory and can't fail.
     fn begin(&mut self) -> Pin
-        requires whole { IsWhole Self.EngineTells self.old }
+        requires whole { IsWholeEngine Self.EngineTells self.old }
         requires may_begin { Self.may_begin self.old }
         ensures { HasBegun Self.EngineTells self.old result self.new };
 
@@ -35,7 +35,8 @@ pub trait Engine<M: Means>: EngineTells<M> {
 
     /// Commits a transaction of a pin that holds, or says why not and hands the transaction back as it was.
     ///
-    /// It asks nothing of what the change means. A run for which the engine stands goes on where the change is good for it.
+    /// Of an engine that is alone it asks nothing of what the change means: a run for which the engine stands goes on where the
+    /// change is good for it. Where others commit to the same store the change is good for each run, since theirs go on too.
     fn commit(
         &mut self,
         pin: &Pin,
@@ -44,16 +45,17 @@ pub trait Engine<M: Means>: EngineTells<M> {
     ) -> Result<Receipt, (CommitFault, Prepared<M>)>
         requires live { IsLive Self.live self.old pin.now }
         requires fit { IsFit (Self.state self.old) pin.now prepared }
+        requires good { IsGoodForOthers M.Means Self.EngineTells self.old pin.now prepared }
         ensures { HasCommitted M.Means Self.EngineTells self.old pin.now prepared who result self.new };
 
     /// Takes one step of a checkpoint. After `Failed` the logs are as before, and the step may be taken again.
     fn ckpt(&mut self) -> Result<Ckpt, Failed>
-        requires { IsWhole Self.EngineTells self.old }
+        requires { IsWholeEngine Self.EngineTells self.old }
         ensures { HasStepped Self.EngineTells self.old result self.new };
 
     /// Says how the logs stand.
     fn logs(&mut self) -> Logs
-        requires { IsWhole Self.EngineTells self.old }
+        requires { IsWholeEngine Self.EngineTells self.old }
         ensures { HasToldLogs Self.EngineTells self.old result self.new };
 
     /// Gives a pin back. It takes no memory and can't fail.

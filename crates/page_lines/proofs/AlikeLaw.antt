@@ -21,7 +21,7 @@ use Rattle.engine_spec.specs.History.{conflict, first_writer, or_others}
 use Rattle.disk_face.specs.Faults.{one_more}
 use Rattle.page_lines.specs.Range.{IsInRange, AreInRange}
 use Rattle.engine_spec.specs.Written.{commit_of}
-use Rattle.page_lines.specs.World.{World, Outcome, SessionState, Out, Open, Refused, Transaction, changed_at, map_number, newest_map, shown, reads_with, read, write, change_of, commit_in, pages_written, moved, committed, decided, begin_step, read_step, write_step, commit_step, rollback_step, step, answers_to, after, world_over}
+use Rattle.page_lines.specs.World.{World, Outcome, SessionState, Out, Open, Refused, PageTransaction, changed_at, map_number, newest_map, shown, reads_with, read, write, change_of, commit_in, pages_written, moved, committed, decided, begin_step, read_step, write_step, commit_step, rollback_step, step, answers_to, world_after, world_over}
 use Rattle.page_lines.specs.Alike.{AreAlike, AreAlikeWorlds, BeganSince, AreAlikeSince}
 use Rattle.engine_spec.proofs.Laying.{laid-put, laid-at, put_pages-other, stamped-length}
 use Rattle.page_lines.proofs.GoodLines.{lines_whole, first_absent}
@@ -80,14 +80,14 @@ same_conflict mode (page ∷ pages) n some others same =
     ∙ ap (or_others page (first_writer mode page n (drop n others))) (same_conflict mode pages n some others same)
 
 -- a page of the map that a transaction of page lines makes
-laid_at : (s : ℕ) (world : World) (transaction : Transaction) (pages : PageMap) (page : ℕ) → AreImages s transaction.changed
+laid_at : (s : ℕ) (world : World) (transaction : PageTransaction) (pages : PageMap) (page : ℕ) → AreImages s transaction.changed
     → 16 ≤ length pages → 2 ≤ page
     → page_at (laid pages (change_of world transaction)) page ≡ unwrap_or (image_of transaction.changed page) (page_at pages page)
 laid_at s world transaction pages page images count low =
     laid-at pages (change_of world transaction) 16 page refl images.different images.in_range count low
 
 -- laid on alike maps a transaction makes alike maps
-laid_alike : (s : ℕ) (one other : World) (transaction : Transaction) (ones others : PageMap) → AreImages s transaction.changed
+laid_alike : (s : ℕ) (one other : World) (transaction : PageTransaction) (ones others : PageMap) → AreImages s transaction.changed
     → IsStore s ones → AreAlike ones others
     → AreAlike (laid ones (change_of one transaction)) (laid others (change_of other transaction))
 laid_alike s one other transaction ones others images sound alike page low high =
@@ -101,7 +101,7 @@ first_size [] long = refl
 first_size (first ∷ pages) long = stamped-length (length (first ∷ pages)) first long
 
 -- the page size stays, whatever the other pages
-laid_size : (s : ℕ) (world : World) (transaction : Transaction) (pages : PageMap) → AreImages s transaction.changed
+laid_size : (s : ℕ) (world : World) (transaction : PageTransaction) (pages : PageMap) → AreImages s transaction.changed
     → 100 ≤ page_size_of pages → page_size_of (laid pages (change_of world transaction)) ≡ page_size_of pages
 laid_size s world transaction pages images long =
     let change = change_of world transaction in
@@ -209,7 +209,7 @@ write_alike number one other session page byte (Refused transaction) here alike 
     same_alike number one other told.MustRollBack alike
 
 -- the commits of the same transaction are the same
-commit_same : (one other : World) (session : ℕ) (transaction : Transaction) → one.begun session ≡ other.begun session
+commit_same : (one other : World) (session : ℕ) (transaction : PageTransaction) → one.begun session ≡ other.begun session
     → commit_in one session transaction ≡ commit_in other session transaction
 commit_same one other session transaction begun =
     ap (λ (ordinal : ℕ). commit_of (record {
@@ -232,7 +232,7 @@ same_more number some others one other within count same last =
     ∙ sym (drop-append-le number others (other ∷ []) (omega arith))))
 
 -- COMMIT that nothing bars
-committed_alike : (s number : ℕ) (one other : World) (session : ℕ) (transaction : Transaction) → AreImages s transaction.changed
+committed_alike : (s number : ℕ) (one other : World) (session : ℕ) (transaction : PageTransaction) → AreImages s transaction.changed
     → MayGoOn s one → AreAlikeSince number one other
     → AreSameAnswers number (committed one session transaction) (committed other session transaction)
 committed_alike s number one other session transaction images may alike =
@@ -267,7 +267,7 @@ committed_alike s number one other session transaction images may alike =
     }
 
 -- COMMIT of a transaction that wrote
-decided_alike : (s number : ℕ) (one other : World) (session : ℕ) (transaction : Transaction) (found : Option (ℕ × ℕ))
+decided_alike : (s number : ℕ) (one other : World) (session : ℕ) (transaction : PageTransaction) (found : Option (ℕ × ℕ))
     → AreImages s transaction.changed → MayGoOn s one → AreAlikeSince number one other
     → AreSameAnswers number (decided one session transaction found) (decided other session transaction found)
 decided_alike s number one other session transaction None images may alike =
@@ -347,7 +347,7 @@ since_answers s number one other (asked ∷ acts) range may alike =
 
 -- and the worlds after them are alike
 pub since_after : (s number : ℕ) (one other : World) (acts : List Act) → AreInRange acts → MayGoOn s one
-    → AreAlikeSince number one other → AreAlikeSince number (after one acts) (after other acts)
+    → AreAlikeSince number one other → AreAlikeSince number (world_after one acts) (world_after other acts)
 since_after s number one other [] range may alike = alike
 since_after s number one other (asked ∷ acts) range may alike =
     let here = All-head IsInRange asked acts range in
@@ -381,7 +381,7 @@ answers_alike s one other acts range may alike = since_answers s 0 one other act
 
 -- and stay alike
 pub after_alike : (s : ℕ) (one other : World) (acts : List Act) → AreInRange acts → MayGoOn s one → AreAlikeWorlds one other
-    → AreAlikeWorlds (after one acts) (after other acts)
+    → AreAlikeWorlds (world_after one acts) (world_after other acts)
 after_alike s one other acts range may alike =
     let then = since_after s 0 one other acts range may (alike_since one other alike) in
     record {

@@ -10,8 +10,8 @@ use Rattle.page_lines.specs.declared.lines.Told.TheVariants as told
 use Rattle.engine_spec.specs.PageSet.{with_page}
 use Rattle.page_lines.specs.PageLines.{Statement, ReadPage, WritePage, statement_text, read_text, write_text, page_after, with_image, Fills, AreImages, IsPageStore}
 use Rattle.engine_spec.specs.Change.{image_of}
-use Rattle.page_lines.specs.World.{World, Transaction, map_number, shown, reads_with}
-use Rattle.page_lines.specs.Exchanges.{Accepted}
+use Rattle.page_lines.specs.World.{World, PageTransaction, map_number, shown, reads_with}
+use Rattle.page_lines.specs.Exchanges.{AcceptedStatement}
 use Rattle.page_lines.specs.Serial.{told_alone, statements_in, IsToldAlone}
 use Rattle.engine_spec.proofs.Laying.{page_at-length, agree_fewer}
 use Rattle.engine_spec.proofs.PageSets.{with_has, with_keeps}
@@ -44,15 +44,15 @@ page-long s pages q sound low high =
     page_at-length pages (page_size_of pages) q sound.store.each (omega arith) (omega (arith, sound.store.count)) ∙ sound.size
 
 -- one more at the end
-pub statements-push : (done : List Accepted) (one : Accepted) → statements_in (done ++ one ∷ []) ≡ statements_in done ++ one.statement ∷ []
-statements-push done one = map-append (λ (it : Accepted). it.statement) done (one ∷ [])
+pub statements-push : (done : List AcceptedStatement) (one : AcceptedStatement) → statements_in (done ++ one ∷ []) ≡ statements_in done ++ one.statement ∷ []
+statements-push done one = map-append (λ (it : AcceptedStatement). it.statement) done (one ∷ [])
 
-pub answers-push : (done : List Accepted) (one : Accepted)
-    → map (λ (it : Accepted). it.told) (done ++ one ∷ []) ≡ map (λ (it : Accepted). it.told) done ++ one.told ∷ []
-answers-push done one = map-append (λ (it : Accepted). it.told) done (one ∷ [])
+pub answers-push : (done : List AcceptedStatement) (one : AcceptedStatement)
+    → map (λ (it : AcceptedStatement). it.told) (done ++ one ∷ []) ≡ map (λ (it : AcceptedStatement). it.told) done ++ one.told ∷ []
+answers-push done one = map-append (λ (it : AcceptedStatement). it.told) done (one ∷ [])
 
 -- told alone, with a statement more that was told what it is told after the others
-pub alone-push : (pages : PageMap) (done : List Accepted) (one : Accepted) → IsToldAlone pages done
+pub alone-push : (pages : PageMap) (done : List AcceptedStatement) (one : AcceptedStatement) → IsToldAlone pages done
     → one.told ∷ [] ≡ told_alone pages (statements_in done) (one.statement ∷ []) → IsToldAlone pages (done ++ one ∷ [])
 alone-push pages done one alone last =
     answers-push done one
@@ -63,7 +63,7 @@ alone-push pages done one alone last =
 
 -- A transaction is tied to what it did: it keeps the texts of its statements, its images are what they wrote, and it was told what it
 -- is told alone on each map that agrees with its snapshot on the pages that it read.
-pub record IsTied (s : ℕ) (snapshot : PageMap) (transaction : Transaction) (done : List Accepted) : Type 0 where
+pub record IsTied (s : ℕ) (snapshot : PageMap) (transaction : PageTransaction) (done : List AcceptedStatement) : Type 0 where
   pub texts : transaction.said ≡ map statement_text (statements_in done)
   pub images : AreImages s transaction.changed
   pub fills : Fills s (statements_in done) transaction.changed
@@ -80,7 +80,7 @@ tied_none s n snapshot = record {
 }
 
 -- what agrees on the pages read with one more agrees on those before
-agree_before : (snapshot pages : PageMap) (transaction : Transaction) (page : ℕ) (image : Option (List ℕ))
+agree_before : (snapshot pages : PageMap) (transaction : PageTransaction) (page : ℕ) (image : Option (List ℕ))
     → image_of transaction.changed page ≡ image → Agree snapshot pages (reads_with transaction page)
     → Agree snapshot pages transaction.reads
 agree_before snapshot pages transaction page None is agree =
@@ -90,7 +90,7 @@ agree_before snapshot pages transaction page (Some bytes) is agree =
     let all : Agree snapshot pages transaction.reads = rw is at agree in all
 
 -- and what a transaction sees of the page is what it would see there
-same_seen : (snapshot pages : PageMap) (transaction : Transaction) (page : ℕ) (image : Option (List ℕ)) → 2 ≤ page
+same_seen : (snapshot pages : PageMap) (transaction : PageTransaction) (page : ℕ) (image : Option (List ℕ)) → 2 ≤ page
     → image_of transaction.changed page ≡ image → Agree snapshot pages (reads_with transaction page)
     → unwrap_or (image_of transaction.changed page) (page_at snapshot page)
     ≡ unwrap_or (image_of transaction.changed page) (page_at pages page)
@@ -102,7 +102,7 @@ same_seen snapshot pages transaction page None low is agree =
 same_seen snapshot pages transaction page (Some bytes) low is agree = rw is refl
 
 -- a transaction with one read more
-pub tied_read : (s : ℕ) (world : World) (transaction : Transaction) (page : ℕ) (done : List Accepted) → 2 ≤ page → page ≤ 16
+pub tied_read : (s : ℕ) (world : World) (transaction : PageTransaction) (page : ℕ) (done : List AcceptedStatement) → 2 ≤ page → page ≤ 16
     → IsTied s (map_number world transaction.snap) transaction done
     → IsTied s (map_number world transaction.snap) (record transaction {
       reads = reads_with transaction page;
@@ -111,7 +111,7 @@ pub tied_read : (s : ℕ) (world : World) (transaction : Transaction) (page : �
 tied_read s world transaction page done low high tied =
     let snapshot = map_number world transaction.snap in
     let statements = statements_in done in
-    let one : Accepted = record { statement = ReadPage page; told = told.Byte (slice_index (shown world transaction page) 0) } in
+    let one : AcceptedStatement = record { statement = ReadPage page; told = told.Byte (slice_index (shown world transaction page) 0) } in
     record {
       texts = ap (λ (texts : List (List ℕ)). texts ++ read_text page ∷ []) tied.texts
           ∙ (sym (texts-push statements (ReadPage page)) ∙ ap (map statement_text) (sym (statements-push done one)));
@@ -128,7 +128,7 @@ tied_read s world transaction page done low high tied =
     }
 
 -- a transaction with one write more, of a page of s bytes
-pub tied_write : (s size : ℕ) (snapshot : PageMap) (transaction : Transaction) (page byte : ℕ) (done : List Accepted) → 2 ≤ page → page ≤ 16
+pub tied_write : (s size : ℕ) (snapshot : PageMap) (transaction : PageTransaction) (page byte : ℕ) (done : List AcceptedStatement) → 2 ≤ page → page ≤ 16
     → size ≡ s → IsTied s snapshot transaction done
     → IsTied s snapshot (record transaction {
       changed = with_image transaction.changed page (replicate size byte);
@@ -137,7 +137,7 @@ pub tied_write : (s size : ℕ) (snapshot : PageMap) (transaction : Transaction)
     }) (done ++ record { statement = WritePage page byte; told = told.Ok } ∷ [])
 tied_write s size snapshot transaction page byte done low high is tied =
     let statements = statements_in done in
-    let one : Accepted = record { statement = WritePage page byte; told = told.Ok } in
+    let one : AcceptedStatement = record { statement = WritePage page byte; told = told.Ok } in
     record {
       texts = ap (λ (texts : List (List ℕ)). texts ++ write_text page byte ∷ []) tied.texts
           ∙ (sym (texts-push statements (WritePage page byte)) ∙ ap (map statement_text) (sym (statements-push done one)));

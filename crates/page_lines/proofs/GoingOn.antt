@@ -14,8 +14,8 @@ use Rattle.page_lines.specs.PageLines.{AreImages}
 use Rattle.engine_spec.specs.Change.{laid}
 use Rattle.engine_spec.specs.History.{conflict}
 use Rattle.page_lines.specs.Range.{IsInRange}
-use Rattle.page_lines.specs.World.{World, SessionState, Out, Open, Refused, Transaction, changed_at, newest_map, shown, change_of, commit_in, moved, committed, decided, commit, begin_step, read_step, write_step, commit_step, rollback_step, step}
-use Rattle.page_lines.specs.Exchanges.{Exchange, Accepted, snapshot_of, transaction_of}
+use Rattle.page_lines.specs.World.{World, SessionState, Out, Open, Refused, PageTransaction, changed_at, newest_map, shown, change_of, commit_in, moved, committed, decided, commit, begin_step, read_step, write_step, commit_step, rollback_step, step}
+use Rattle.page_lines.specs.Exchanges.{Exchange, AcceptedStatement, snapshot_of, transaction_of}
 use Rattle.page_lines.proofs.Transactions.{none_are, with_image-are}
 use Rattle.page_lines.proofs.Alone.{IsStore}
 use Rattle.page_lines.proofs.SerialLaw.{IsHeld, IsWorld, laid_is_store, newest_store}
@@ -89,7 +89,7 @@ write_may s world session page byte (Open transaction) low high here may =
 write_may s world session page byte (Refused transaction) low high here may = may
 
 -- COMMIT that nothing bars
-committed_may : (s : ℕ) (world : World) (session : ℕ) (transaction : Transaction) → AreImages s transaction.changed
+committed_may : (s : ℕ) (world : World) (session : ℕ) (transaction : PageTransaction) → AreImages s transaction.changed
     → MayGoOn s world → MayGoOn s (committed world session transaction).world
 committed_may s world session transaction images may =
     let next = laid (newest_map world) (change_of world transaction) in
@@ -102,7 +102,7 @@ committed_may s world session transaction images may =
     }
 
 -- COMMIT of a transaction that wrote
-decided_may : (s : ℕ) (world : World) (session : ℕ) (transaction : Transaction) (found : Option (ℕ × ℕ))
+decided_may : (s : ℕ) (world : World) (session : ℕ) (transaction : PageTransaction) (found : Option (ℕ × ℕ))
     → AreImages s transaction.changed → MayGoOn s world → MayGoOn s (decided world session transaction found).world
 decided_may s world session transaction None images may = committed_may s world session transaction images may
 decided_may s world session transaction (Some found) images may =
@@ -151,7 +151,7 @@ out_may s world count newest out = record {
 }
 
 -- what a session that is held wrote are whole pages
-held_images : (s : ℕ) (maps : List PageMap) (snap : ℕ) (done : List Accepted) (state : SessionState) → IsHeld s maps snap done state
+held_images : (s : ℕ) (maps : List PageMap) (snap : ℕ) (done : List AcceptedStatement) (state : SessionState) → IsHeld s maps snap done state
     → HasImages s state
 held_images s maps snap done Out held = tt
 held_images s maps snap done (Open transaction) held = held.2.images

@@ -6,7 +6,7 @@ use Rattle.std.proofs.Math.Nat.{min-eq_left, min-eq_right, le-min, min-le_right}
 use Rattle.std.proofs.lemmas.Option.{slice_get_within}
 use Rattle.engine_spec.specs.declared.commits.Commit.{Commit}
 use Rattle.disk_face.specs.Faults.{one_more}
-use Rattle.page_lines.specs.World.{SessionState, Out, Open, Refused, Transaction, changed_at}
+use Rattle.page_lines.specs.World.{SessionState, Out, Open, Refused, PageTransaction, changed_at}
 use Rattle.page_lines.proofs.OneMore.{front_of, last_of}
 
 -- while a session is in a transaction, the ordinal of each commit that it made is less than the count of those that it has begun,
@@ -71,7 +71,7 @@ begun-within begun session number within = elim (cases_eq number session) [
 ]
 
 -- a session began a transaction
-pub ordinals_begun : (history : List Commit) (begun : ℕ → ℕ) (sessions : ℕ → SessionState) (session : ℕ) (transaction : Transaction)
+pub ordinals_begun : (history : List Commit) (begun : ℕ → ℕ) (sessions : ℕ → SessionState) (session : ℕ) (transaction : PageTransaction)
     → AreOrdinals history begun sessions
     → AreOrdinals history (changed_at begun session (one_more (begun session))) (changed_at sessions session (Open transaction))
 ordinals_begun history begun sessions session transaction all = record {
@@ -124,7 +124,7 @@ past_more history commit session begun (Refused transaction) apart past =
     λ few. all_more history commit session begun apart (past few)
 
 -- a session committed the transaction that it began last
-pub ordinals_committed : (history : List Commit) (begun : ℕ → ℕ) (sessions : ℕ → SessionState) (commit : Commit) (transaction : Transaction)
+pub ordinals_committed : (history : List Commit) (begun : ℕ → ℕ) (sessions : ℕ → SessionState) (commit : Commit) (transaction : PageTransaction)
     → commit.entry.ordinal ≡ begun commit.entry.session
     → ArePast history commit.entry.session (begun commit.entry.session) (Open transaction) → AreOrdinals history begun sessions
     → AreOrdinals (history ++ commit ∷ []) begun (changed_at sessions commit.entry.session Out)

@@ -19,9 +19,9 @@ use Rattle.engine_spec.specs.declared.commits.Receipt.TheVariants.{At, ReadOnly}
 use Rattle.page_lines.specs.PageLines.{AreImages, ReadPage, WritePage, read_text, write_text, with_image, page_after}
 use Rattle.engine_spec.specs.Change.{laid}
 use Rattle.engine_spec.specs.History.{counts, is_written, conflict, NoConflict}
-use Rattle.page_lines.specs.World.{World, SessionState, Out, Open, Refused, Transaction, changed_at, map_number, newest_map, change_of, submitted, commit_in, pages_written, shown, reads_with, moved, committed, decided, commit, begin_step, read_step, write_step, commit_step, rollback_step, step, Outcome, world_over, zeros}
+use Rattle.page_lines.specs.World.{World, SessionState, Out, Open, Refused, PageTransaction, changed_at, map_number, newest_map, change_of, handed_in, commit_in, pages_written, shown, reads_with, moved, committed, decided, commit, begin_step, read_step, write_step, commit_step, rollback_step, step, Outcome, world_over, zeros}
 use Rattle.page_lines.specs.Range.{IsInRange}
-use Rattle.page_lines.specs.Exchanges.{Exchange, Accepted, is_begin, is_commit, commits_in, snapshot_of, accepted, transaction_of}
+use Rattle.page_lines.specs.Exchanges.{Exchange, AcceptedStatement, is_begin, is_commit, commits_in, snapshot_of, accepted, transaction_of}
 use Rattle.page_lines.specs.Serial.{IsToldAlone, statements_in}
 use Rattle.page_lines.specs.Legal.{IsLegalCommit, IsLegalFrom}
 use Rattle.page_lines.proofs.OneMore.{found_at, front_of, last_of, first_stays}
@@ -39,7 +39,7 @@ pub record Leads (number : ℕ) (old : PageMap) (commit : Commit) (new : PageMap
   pub legal : IsLegalCommit number old commit new
 
 -- A session's transaction began at this snapshot, which is one of these maps, and is tied to what it did.
-abbrev pub IsHeld : ℕ → List PageMap → ℕ → List Accepted → SessionState → Type 0
+abbrev pub IsHeld : ℕ → List PageMap → ℕ → List AcceptedStatement → SessionState → Type 0
 IsHeld s maps snap done Out = Unit {0}
 IsHeld s maps snap done (Open transaction) = (snap ≡ transaction.snap) × (transaction.snap < length maps)
     × IsTied s (slice_index_or maps transaction.snap []) transaction done
@@ -47,7 +47,7 @@ IsHeld s maps snap done (Refused transaction) = (snap ≡ transaction.snap) × (
     × IsTied s (slice_index_or maps transaction.snap []) transaction done
 
 -- what was done was told what it is told alone on this snapshot, which is one of these maps
-abbrev pub IsAloneAt : List PageMap → ℕ → List Accepted → Type 0
+abbrev pub IsAloneAt : List PageMap → ℕ → List AcceptedStatement → Type 0
 IsAloneAt maps snap done = (snap < length maps) × IsToldAlone (slice_index_or maps snap []) done
 
 -- What each world of page lines over this first map keeps, with the past that led to it, newest first: one map more than commits, and as
@@ -140,7 +140,7 @@ agree_since s first world past whole n within numbers none =
     subst (λ (one : Commit). counts Concurrent q one ≡ false) is left))
 
 -- the change of a transaction of page lines leads from a page store to a page store
-pub laid_is_store : (s : ℕ) (world : World) (transaction : Transaction) (pages : PageMap) → AreImages s transaction.changed
+pub laid_is_store : (s : ℕ) (world : World) (transaction : PageTransaction) (pages : PageMap) → AreImages s transaction.changed
     → IsStore s pages → IsStore s (laid pages (change_of world transaction))
 laid_is_store s world transaction pages images sound =
     let change = change_of world transaction in
@@ -155,7 +155,7 @@ laid_is_store s world transaction pages images sound =
     }
 
 -- what the statements of a transaction leave of a map that agrees with its snapshot is what laying its change leaves
-pub leaves_laid : (s : ℕ) (world : World) (transaction : Transaction) (done : List Accepted) (snapshot pages : PageMap) → IsStore s pages
+pub leaves_laid : (s : ℕ) (world : World) (transaction : PageTransaction) (done : List AcceptedStatement) (snapshot pages : PageMap) → IsStore s pages
     → IsTied s snapshot transaction done
     → (page : ℕ) → 2 ≤ page → page ≤ 16 → page_at (laid pages (change_of world transaction)) page
     ≡ page_after page (statements_in done) (page_at pages page)
@@ -164,7 +164,7 @@ leaves_laid s world transaction done snapshot pages sound tied page low high =
     ∙ sym (tied.fills page (page_at pages page) (page-long s pages page sound low high))
 
 -- the commit of a transaction leads from the newest map to the next
-leads_newest : (s : ℕ) (world : World) (session : ℕ) (transaction : Transaction) (done : List Accepted) (snapshot pages : PageMap)
+leads_newest : (s : ℕ) (world : World) (session : ℕ) (transaction : PageTransaction) (done : List AcceptedStatement) (snapshot pages : PageMap)
     → IsStore s pages → transaction.snap ≤ length world.history → IsTied s snapshot transaction done
     → Leads (length world.history) pages (commit_in world session transaction) (laid pages (change_of world transaction))
 leads_newest s world session transaction done snapshot pages sound within tied =
@@ -176,7 +176,7 @@ leads_newest s world session transaction done snapshot pages sound within tied =
     let whole = lines_whole change s tied.images refl in
     record {
       agrees = λ numbers left.
-          agree_laid pages (submitted world session transaction) (pages_written transaction.changed) Concurrent 16 s numbers size whole count
+          agree_laid pages (handed_in world session transaction) (pages_written transaction.changed) Concurrent 16 s numbers size whole count
           (omega arith) each (written_covers transaction.changed) left;
       legal = record {
         leads = record {
@@ -189,7 +189,7 @@ leads_newest s world session transaction done snapshot pages sound within tied =
     }
 
 -- a transaction stays tied to its snapshot with one map more
-held_more : (s : ℕ) (maps : List PageMap) (next : PageMap) (snap : ℕ) (done : List Accepted) (state : SessionState)
+held_more : (s : ℕ) (maps : List PageMap) (next : PageMap) (snap : ℕ) (done : List AcceptedStatement) (state : SessionState)
     → IsHeld s maps snap done state → IsHeld s (maps ++ next ∷ []) snap done state
 held_more s maps next snap done Out held = tt
 held_more s maps next snap done (Open transaction) held = (
@@ -206,14 +206,14 @@ held_more s maps next snap done (Refused transaction) held = (
 )
 
 -- and what was told alone stays so
-alone_more : (maps more : List PageMap) (snap : ℕ) (done : List Accepted) → IsAloneAt maps snap done → IsAloneAt (maps ++ more) snap done
+alone_more : (maps more : List PageMap) (snap : ℕ) (done : List AcceptedStatement) → IsAloneAt maps snap done → IsAloneAt (maps ++ more) snap done
 alone_more maps more snap done alone = (
   omega (arith, length-append maps more, alone.0),
   subst (λ (pages : PageMap). IsToldAlone pages done) (sym (get_or_append_left maps more [] snap alone.0)) alone.1,
 )
 
 -- a transaction that is tied to its snapshot was told alone there
-alone_tied : (s : ℕ) (maps : List PageMap) (snap : ℕ) (transaction : Transaction) (done : List Accepted) → All (IsStore s) maps
+alone_tied : (s : ℕ) (maps : List PageMap) (snap : ℕ) (transaction : PageTransaction) (done : List AcceptedStatement) → All (IsStore s) maps
     → snap ≡ transaction.snap → transaction.snap < length maps → IsTied s (slice_index_or maps transaction.snap []) transaction done
     → IsAloneAt maps snap done
 alone_tied s maps snap transaction done stores is within tied =
@@ -229,7 +229,7 @@ IsOf session one past = (other : ℕ) → (other ≡ session → ⊥)
     → (snapshot_of other (one ∷ past) ≡ snapshot_of other past) × (transaction_of other (one ∷ past) ≡ transaction_of other past)
 
 -- what holds of all sessions, where it holds of this one and the others stay
-changed_all : (P : ℕ → ℕ → List Accepted → SessionState → Type 0) (sessions : ℕ → SessionState) (session : ℕ) (state : SessionState)
+changed_all : (P : ℕ → ℕ → List AcceptedStatement → SessionState → Type 0) (sessions : ℕ → SessionState) (session : ℕ) (state : SessionState)
     (one : Exchange) (past : List Exchange) → IsOf session one past
     → P session (snapshot_of session (one ∷ past)) (transaction_of session (one ∷ past)) state
     → ((other : ℕ) → P other (snapshot_of other past) (transaction_of other past) (sessions other))
@@ -239,7 +239,7 @@ changed_all P sessions session state one past is_of here all other = elim (cases
       (subst (λ (n : ℕ). P n (snapshot_of n (one ∷ past)) (transaction_of n (one ∷ past)) state) (sym same) here)
   | inr apart ↦ rw (ne_eqb other session apart)
       (subst (λ (snap : ℕ). P other snap (transaction_of other (one ∷ past)) (sessions other)) (sym (is_of other apart).0)
-      (subst (λ (done : List Accepted). P other (snapshot_of other past) done (sessions other)) (sym (is_of other apart).1) (all other)))
+      (subst (λ (done : List AcceptedStatement). P other (snapshot_of other past) done (sessions other)) (sym (is_of other apart).1) (all other)))
 ]
 
 -- a session's state changed, by an exchange that is no commit
@@ -288,7 +288,7 @@ begin_keeps : (s : ℕ) (first : PageMap) (world : World) (past : List Exchange)
     → IsWorld s first world past → Keeps s first past (act.Begin session) (begin_step world session state)
 begin_keeps s first world past session Out whole =
     let one : Exchange = record { act = act.Begin session; told = told.Ok } in
-    let new : Transaction = record { snap = length world.history; reads = []; changed = []; said = []; wrote = false } in
+    let new : PageTransaction = record { snap = length world.history; reads = []; changed = []; said = []; wrote = false } in
     let is_of : IsOf session one past = λ other apart. rw (ne_eqb session other (λ e. apart (sym e))) (refl, refl) in
     let within : length world.history < length world.maps = omega (arith, whole.maps_count) in
     let tied = tied_none s (length world.history) (newest_map world) in
@@ -297,7 +297,7 @@ begin_keeps s first world past session Out whole =
     let held : IsHeld s world.maps (snapshot_of session (one ∷ past)) (transaction_of session (one ∷ past)) (Open new) = (
       snap,
       within,
-      subst (λ (all : List Accepted). IsTied s (newest_map world) new all) (sym done) tied,
+      subst (λ (all : List AcceptedStatement). IsTied s (newest_map world) new all) (sym done) tied,
     ) in
     record {
       begins = whole.begins;
@@ -329,11 +329,11 @@ read_keeps s first world past session page (Open transaction) low high held befo
     let answer : Told = told.Byte (slice_index (shown world transaction page) 0) in
     let one : Exchange = record { act = act.Read session page; told = answer } in
     let is_of : IsOf session one past = λ other apart. rw (ne_eqb session other (λ e. apart (sym e))) (refl, refl) in
-    let new : Transaction = record transaction { reads = reads_with transaction page; said = transaction.said ++ read_text page ∷ [] } in
+    let new : PageTransaction = record transaction { reads = reads_with transaction page; said = transaction.said ++ read_text page ∷ [] } in
     let done : transaction_of session (one ∷ past) ≡ transaction_of session past ++ record { statement = ReadPage page; told = answer } ∷ [] =
     rw (eq-eqb session session refl) refl in
     let tied : IsTied s (map_number world transaction.snap) new (transaction_of session (one ∷ past)) =
-    subst (λ (all : List Accepted). IsTied s (map_number world transaction.snap) new all) (sym done)
+    subst (λ (all : List AcceptedStatement). IsTied s (map_number world transaction.snap) new all) (sym done)
     (tied_read s world transaction page (transaction_of session past) low high held.2) in
     moved_keeps s first world past session (Open new) (act.Read session page) answer refl is_of (held.0, held.1, tied)
     (alone_tied s world.maps (snapshot_of session past) new (transaction_of session (one ∷ past)) whole.stores held.0 held.1 tied) before whole
@@ -355,7 +355,7 @@ write_keeps s first world past session page byte (Open transaction) low high hel
     let one : Exchange = record { act = act.Write session page byte; told = told.Ok } in
     let is_of : IsOf session one past = λ other apart. rw (ne_eqb session other (λ e. apart (sym e))) (refl, refl) in
     let size = page_size_of (newest_map world) in
-    let new : Transaction = record transaction {
+    let new : PageTransaction = record transaction {
       changed = with_image transaction.changed page (replicate size byte);
       said = transaction.said ++ write_text page byte ∷ [];
       wrote = true;
@@ -364,7 +364,7 @@ write_keeps s first world past session page byte (Open transaction) low high hel
     ≡ transaction_of session past ++ record { statement = WritePage page byte; told = told.Ok } ∷ [] =
     rw (eq-eqb session session refl) refl in
     let tied : IsTied s (map_number world transaction.snap) new (transaction_of session (one ∷ past)) =
-    subst (λ (all : List Accepted). IsTied s (map_number world transaction.snap) new all) (sym done)
+    subst (λ (all : List AcceptedStatement). IsTied s (map_number world transaction.snap) new all) (sym done)
     (tied_write s size (map_number world transaction.snap) transaction page byte (transaction_of session past) low high
     (newest_store s first world past whole).size held.2) in
     moved_keeps s first world past session (Open new) (act.Write session page byte) told.Ok refl is_of (held.0, held.1, tied)
@@ -373,7 +373,7 @@ write_keeps s first world past session page byte (Refused transaction) low high 
     stays s first world past (record { act = act.Write session page byte; told = told.MustRollBack }) refl (λ k. refl) (λ k. refl) whole
 
 -- COMMIT that nothing bars
-committed_keeps : (s : ℕ) (first : PageMap) (world : World) (past : List Exchange) (session : ℕ) (transaction : Transaction)
+committed_keeps : (s : ℕ) (first : PageMap) (world : World) (past : List Exchange) (session : ℕ) (transaction : PageTransaction)
     → IsHeld s world.maps (snapshot_of session past) (transaction_of session past) (Open transaction)
     → ArePast world.history session (world.begun session) (Open transaction) → IsWorld s first world past
     → Keeps s first past (act.Commit session) (committed world session transaction)
@@ -400,7 +400,7 @@ committed_keeps s first world past session transaction held before whole =
     }
 
 -- COMMIT of a transaction that wrote
-decided_keeps : (s : ℕ) (first : PageMap) (world : World) (past : List Exchange) (session : ℕ) (transaction : Transaction)
+decided_keeps : (s : ℕ) (first : PageMap) (world : World) (past : List Exchange) (session : ℕ) (transaction : PageTransaction)
     (found : Option (ℕ × ℕ)) → IsHeld s world.maps (snapshot_of session past) (transaction_of session past) (Open transaction)
     → ArePast world.history session (world.begun session) (Open transaction) → IsWorld s first world past
     → Keeps s first past (act.Commit session) (decided world session transaction found)

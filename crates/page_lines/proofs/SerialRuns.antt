@@ -17,9 +17,9 @@ use Rattle.page_lines.specs.declared.lines.Act.TheVariants as act
 use Rattle.page_lines.specs.declared.lines.Told.{Told}
 use Rattle.page_lines.specs.declared.lines.Told.TheVariants as told
 use Rattle.page_lines.specs.PageLines.{page_after}
-use Rattle.page_lines.specs.World.{World, SessionState, Out, Open, Refused, Transaction, newest_map, map_number, change_of, moved, decided, begin_step, read_step, write_step, commit_step, rollback_step, step, after, world_over, zeros, start}
+use Rattle.page_lines.specs.World.{World, SessionState, Out, Open, Refused, PageTransaction, newest_map, map_number, change_of, moved, decided, begin_step, read_step, write_step, commit_step, rollback_step, step, world_after, world_over, zeros, start}
 use Rattle.page_lines.specs.Range.{IsInRange, AreInRange}
-use Rattle.page_lines.specs.Exchanges.{Exchange, Accepted, exchanges, past_of, is_commit, commits_in, snapshot_of, transaction_of}
+use Rattle.page_lines.specs.Exchanges.{Exchange, AcceptedStatement, exchanges, past_of, is_commit, commits_in, snapshot_of, transaction_of}
 use Rattle.page_lines.specs.Serial.{IsToldAlone, IsSerialCommit, IsSerial, statements_in}
 use Rattle.page_lines.specs.Legal.{IsLegalFrom}
 use Rattle.page_lines.proofs.Alone.{IsStore}
@@ -34,7 +34,7 @@ pub record Grows (old : List PageMap) (answer : Told) (new : List PageMap) : Typ
 rests : (maps : List PageMap) (answer : Told) → is_commit answer ≡ false → Grows maps answer maps
 rests maps answer none = record { more = []; grown = sym (append-nil maps); count = sym (ap (λ (test : Bool). cond test 1 0) none) }
 
-decided_grows : (world : World) (session : ℕ) (transaction : Transaction) (found : Option (ℕ × ℕ))
+decided_grows : (world : World) (session : ℕ) (transaction : PageTransaction) (found : Option (ℕ × ℕ))
     → Grows world.maps (decided world session transaction found).told (decided world session transaction found).world.maps
 decided_grows world session transaction None =
     record { more = laid (newest_map world) (change_of world transaction) ∷ []; grown = refl; count = refl }
@@ -90,7 +90,7 @@ step_grows world act.Step = rests world.maps _ refl
 step_grows world act.Logs = rests world.maps _ refl
 
 -- the maps of a run, from a world on
-run_grows : (world : World) (acts : List Act) → (more : List PageMap) × ((after world acts).maps ≡ world.maps ++ more)
+run_grows : (world : World) (acts : List Act) → (more : List PageMap) × ((world_after world acts).maps ≡ world.maps ++ more)
     × (length more ≡ commits_in (exchanges world acts))
 run_grows world [] = ([], sym (append-nil world.maps), refl)
 run_grows world (asked ∷ acts) =
@@ -126,7 +126,7 @@ no_read : (answer : Told) (number : ℕ) → read_number answer ≡ None → ans
 no_read answer number none e = none-some number (sym none ∙ ap read_number e)
 
 -- COMMIT that nothing bars has the next number, and its transaction is serial as that commit
-decided_serial : (s : ℕ) (first : PageMap) (world : World) (past : List Exchange) (session number : ℕ) (transaction : Transaction)
+decided_serial : (s : ℕ) (first : PageMap) (world : World) (past : List Exchange) (session number : ℕ) (transaction : PageTransaction)
     (found : Option (ℕ × ℕ)) → conflict Concurrent transaction.reads transaction.snap world.history ≡ found
     → IsHeld s world.maps (snapshot_of session past) (transaction_of session past) (Open transaction) → IsWorld s first world past
     → (decided world session transaction found).told ≡ told.Done (At number)
@@ -175,12 +175,12 @@ commit_serial s first world past session number (Open transaction) held whole = 
 commit_serial s first world past session number (Refused transaction) held whole = λ is_told. absurd (no_commit _ number refl is_told)
 
 -- COMMIT of a transaction that wrote nothing names its snapshot
-decided_reads : (world : World) (session number : ℕ) (transaction : Transaction) (found : Option (ℕ × ℕ))
+decided_reads : (world : World) (session number : ℕ) (transaction : PageTransaction) (found : Option (ℕ × ℕ))
     → (decided world session transaction found).told ≡ told.Done (ReadOnly number) → ⊥
 decided_reads world session number transaction None told = no_read _ number refl told
 decided_reads world session number transaction (Some found) told = no_read _ number refl told
 
-commit_reads : (s : ℕ) (world : World) (snap : ℕ) (done : List Accepted) (session number : ℕ) (state : SessionState)
+commit_reads : (s : ℕ) (world : World) (snap : ℕ) (done : List AcceptedStatement) (session number : ℕ) (state : SessionState)
     → IsHeld s world.maps snap done state → (commit_step world session state).told ≡ told.Done (ReadOnly number) → number ≡ snap
 commit_reads s world snap done session number Out held = λ is_told. absurd (no_read _ number refl is_told)
 commit_reads s world snap done session number (Open transaction) held = by_wrote transaction.wrote
@@ -194,7 +194,7 @@ commit_reads s world snap done session number (Open transaction) held = by_wrote
 commit_reads s world snap done session number (Refused transaction) held = λ is_told. absurd (no_read _ number refl is_told)
 
 -- a commit stays serial among more maps
-serial_more : (maps more all : List PageMap) (number : ℕ) (done : List Accepted) → all ≡ maps ++ more → number < length maps
+serial_more : (maps more all : List PageMap) (number : ℕ) (done : List AcceptedStatement) → all ≡ maps ++ more → number < length maps
     → IsSerialCommit maps number done → IsSerialCommit all number done
 serial_more maps more all number done grown within serial =
     let same : (k : ℕ) → k ≤ number → slice_index_or all k [] ≡ slice_index_or maps k [] =
@@ -261,9 +261,9 @@ read_here s first world past asked session number whole is is_told =
 
 -- a run with one act more at its front
 serial_first : (s : ℕ) (first : PageMap) (world : World) (past : List Exchange) (asked : Act) (acts : List Act) → IsWorld s first world past
-    → IsSerialOn (after (step world asked).world acts).maps (record { act = asked; told = (step world asked).told } ∷ past)
+    → IsSerialOn (world_after (step world asked).world acts).maps (record { act = asked; told = (step world asked).told } ∷ past)
     (exchanges (step world asked).world acts)
-    → IsSerialOn (after world (asked ∷ acts)).maps past (exchanges world (asked ∷ acts))
+    → IsSerialOn (world_after world (asked ∷ acts)).maps past (exchanges world (asked ∷ acts))
 serial_first s first world past asked acts whole onward =
     record { commits = commits; snapshots = snapshots; read_only = read_only }
   where
@@ -274,7 +274,7 @@ serial_first s first world past asked acts whole onward =
     rest = exchanges (step world asked).world acts
 
     maps : List PageMap
-    maps = (after (step world asked).world acts).maps
+    maps = (world_after (step world asked).world acts).maps
 
     commits : (moment session number : ℕ)
         → slice_get (one ∷ rest) moment ≡ Some (record { act = act.Commit session; told = told.Done (At number) })
@@ -311,7 +311,7 @@ serial_first s first world past asked acts whole onward =
 
 -- whatever acts are run on from a world
 serial_on : (s : ℕ) (first : PageMap) (world : World) (past : List Exchange) (acts : List Act) → AreInRange acts → IsWorld s first world past
-    → IsSerialOn (after world acts).maps past (exchanges world acts)
+    → IsSerialOn (world_after world acts).maps past (exchanges world acts)
 serial_on s first world past [] range whole = record {
   commits = λ moment session number is. absurd (none-some _ is);
   snapshots = by_moment;
@@ -330,7 +330,7 @@ serial_on s first world past (asked ∷ acts) range whole =
 
 -- whatever acts are run, the world after them keeps what it has to
 pub after_keeps : (s : ℕ) (first : PageMap) (world : World) (past : List Exchange) (acts : List Act) → AreInRange acts
-    → IsWorld s first world past → (later : List Exchange) × IsWorld s first (after world acts) later
+    → IsWorld s first world past → (later : List Exchange) × IsWorld s first (world_after world acts) later
 after_keeps s first world past [] range whole = (past, whole)
 after_keeps s first world past (asked ∷ acts) range whole =
     after_keeps s first (step world asked).world (record { act = asked; told = (step world asked).told } ∷ past) acts
@@ -346,15 +346,15 @@ serial_over s first sound acts range =
     let grown = run_grows (world_over first) acts in
     let bare : (moment : ℕ) → reverse (take moment run) ++ [] ≡ past_of run moment = λ moment. append-nil (past_of run moment) in
     record {
-      maps = (after (world_over first) acts).maps;
+      maps = (world_after (world_over first) acts).maps;
       begins = ap (λ (maps : List PageMap). slice_get maps 0) grown.1;
       count = ap length grown.1 ∙ omega (arith, grown.2, length-append (first ∷ []) grown.0);
       commits = λ moment session number is.
           subst (λ (past : List Exchange). (number ≡ commits_in past + 1)
-          × IsSerialCommit (after (world_over first) acts).maps number (transaction_of session past)) (bare moment)
+          × IsSerialCommit (world_after (world_over first) acts).maps number (transaction_of session past)) (bare moment)
           (on.commits moment session number is);
       snapshots = λ moment session.
-          subst (λ (past : List Exchange). IsToldAlone (slice_index_or (after (world_over first) acts).maps (snapshot_of session past) [])
+          subst (λ (past : List Exchange). IsToldAlone (slice_index_or (world_after (world_over first) acts).maps (snapshot_of session past) [])
           (transaction_of session past)) (bare moment) (on.snapshots moment session);
       read_only = λ moment session number is.
           subst (λ (past : List Exchange). number ≡ snapshot_of session past) (bare moment) (on.read_only moment session number is);
@@ -365,7 +365,7 @@ pub serial_from_start : (acts : List Act) → AreInRange acts → IsSerial zeros
 serial_from_start acts range = serial_over 4096 zeros zeros_are_store acts range
 
 -- the history that it leaves is legal
-pub legal_from_start : (acts : List Act) → AreInRange acts → IsLegalFrom zeros (after start acts)
+pub legal_from_start : (acts : List Act) → AreInRange acts → IsLegalFrom zeros (world_after start acts)
 legal_from_start acts range =
     let later = after_keeps 4096 zeros start [] acts range (world_over-is 4096 zeros zeros_are_store) in
-    world_is_legal 4096 zeros (after start acts) later.0 later.1
+    world_is_legal 4096 zeros (world_after start acts) later.0 later.1

@@ -44,12 +44,12 @@ snapshot_of session [] = 0
 snapshot_of session (one ∷ past) = if is_begin session one.act one.told then commits_in past else snapshot_of session past
 
 -- a statement and what it was told
-pub record Accepted : Type 0 where
+pub record AcceptedStatement : Type 0 where
   pub statement : Statement
   pub told : Told
 
 -- the READ or WRITE of this session that was accepted here, if one was
-abbrev pub accepted : ℕ → Act → Told → Option Accepted
+abbrev pub accepted : ℕ → Act → Told → Option AcceptedStatement
 accepted session (act.Read other page) (told.Byte byte) =
     if other == session then Some (record { statement = ReadPage page; told = told.Byte byte }) else None
 accepted session (act.Write other page byte) told.Ok =
@@ -57,12 +57,12 @@ accepted session (act.Write other page byte) told.Ok =
 accepted session asked answer = None
 
 -- one more at the end, if there is one
-abbrev pub with_last : List Accepted → Option Accepted → List Accepted
+abbrev pub with_last : List AcceptedStatement → Option AcceptedStatement → List AcceptedStatement
 with_last done None = done
 with_last done (Some one) = done ++ one ∷ []
 
 -- what a session's transaction did: the reads and writes that were accepted since its last BEGIN, in their order, each with its answer
-abbrev pub transaction_of : ℕ → List Exchange → List Accepted
+abbrev pub transaction_of : ℕ → List Exchange → List AcceptedStatement
 transaction_of session [] = []
 transaction_of session (one ∷ past) = if is_begin session one.act one.told then []
     else with_last (transaction_of session past) (accepted session one.act one.told)

@@ -8,7 +8,7 @@ use Rattle.page_lines.specs.declared.lines.Act.TheVariants as act
 use Rattle.page_lines.specs.declared.lines.Told.{Told}
 use Rattle.page_lines.specs.declared.lines.Told.TheVariants as told
 use Rattle.page_lines.specs.PageLines.{Statement, ReadPage, WritePage, page_after}
-use Rattle.page_lines.specs.Exchanges.{Exchange, Accepted, past_of, commits_in, snapshot_of, transaction_of}
+use Rattle.page_lines.specs.Exchanges.{Exchange, AcceptedStatement, past_of, commits_in, snapshot_of, transaction_of}
 
 -- what some statements are told that run one after another on a map, with nothing in between; those before them are given
 abbrev pub told_alone : PageMap → List Statement → List Statement → List Told
@@ -19,16 +19,16 @@ told_alone pages before (WritePage page byte ∷ statements) =
     told.Ok ∷ told_alone pages (before ++ WritePage page byte ∷ []) statements
 
 -- the statements of a transaction
-abbrev pub statements_in : List Accepted → List Statement
+abbrev pub statements_in : List AcceptedStatement → List Statement
 statements_in done = map (λ one. one.statement) done
 
 -- a transaction was told what its statements are told alone on this map
-abbrev pub IsToldAlone : PageMap → List Accepted → Type 0
+abbrev pub IsToldAlone : PageMap → List AcceptedStatement → Type 0
 IsToldAlone pages done = map (λ one. one.told) done ≡ told_alone pages [] (statements_in done)
 
 -- Of these maps, a transaction that became the commit with this number was told what it is told alone on the map before it, and the
 -- map after it is what its statements leave of that, on the pages that page lines speak of.
-pub record IsSerialCommit (maps : List PageMap) (number : ℕ) (done : List Accepted) : Type 0 where
+pub record IsSerialCommit (maps : List PageMap) (number : ℕ) (done : List AcceptedStatement) : Type 0 where
   pub alone : IsToldAlone (slice_index_or maps (number - 1) []) done
   pub leaves : (page : ℕ) → 2 ≤ page → page ≤ 16 → page_at (slice_index_or maps number []) page
       ≡ page_after page (statements_in done) (page_at (slice_index_or maps (number - 1) []) page)

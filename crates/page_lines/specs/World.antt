@@ -22,7 +22,7 @@ use Rattle.engine_spec.specs.Written.{Submitted, commit_of}
 
 -- A transaction of page lines: its snapshot, the pages that it read there, the pages that it wrote, newest last, the texts of its
 -- accepted reads and writes, and whether one was a write.
-pub record Transaction : Type 0 where
+pub record PageTransaction : Type 0 where
   pub snap : ℕ
   pub reads : List ℕ
   pub changed : List PageImage
@@ -32,8 +32,8 @@ pub record Transaction : Type 0 where
 -- A session is out of a transaction, in one, or in one whose COMMIT was refused because of a later commit.
 pub data SessionState : Type 0 where
   Out : SessionState
-  Open : Transaction → SessionState
-  Refused : Transaction → SessionState
+  Open : PageTransaction → SessionState
+  Refused : PageTransaction → SessionState
 
 -- The world: the page maps, first the one at the start and then the one after each commit, the commits, how each session stands, and
 -- how many transactions it has begun.
@@ -88,11 +88,11 @@ begin world session = record {
 }
 
 -- the bytes that a transaction sees of a page: its own where it wrote the page, else those of its snapshot
-abbrev pub shown : World → Transaction → ℕ → List ℕ
+abbrev pub shown : World → PageTransaction → ℕ → List ℕ
 shown world transaction page = unwrap_or (image_of transaction.changed page) (page_at (map_number world transaction.snap) page)
 
 -- the pages that a transaction has read once it has looked at this one: a page that it wrote itself isn't read
-abbrev pub reads_with : Transaction → ℕ → List ℕ
+abbrev pub reads_with : PageTransaction → ℕ → List ℕ
 reads_with transaction page = reads_unless (image_of transaction.changed page) transaction.reads page
   where
     reads_unless : Option (List ℕ) → List ℕ → ℕ → List ℕ
@@ -100,7 +100,7 @@ reads_with transaction page = reads_unless (image_of transaction.changed page) t
     reads_unless (Some bytes) reads page = reads
 
 -- READ p, in a transaction: the first byte of the page
-abbrev pub read : World → ℕ → Transaction → ℕ → Outcome
+abbrev pub read : World → ℕ → PageTransaction → ℕ → Outcome
 read world session transaction page = let byte = told.Byte (slice_index (shown world transaction page) 0) in
     moved world session (Open (record transaction {
       reads = reads_with transaction page;
@@ -108,7 +108,7 @@ read world session transaction page = let byte = told.Byte (slice_index (shown w
     })) byte
 
 -- WRITE p b, in a transaction: every byte of the page is set
-abbrev pub write : World → ℕ → Transaction → ℕ → ℕ → Outcome
+abbrev pub write : World → ℕ → PageTransaction → ℕ → ℕ → Outcome
 write world session transaction page byte =
     moved world session (Open (record transaction {
       changed = with_image transaction.changed page (replicate (page_size_of (newest_map world)) byte);
@@ -117,7 +117,7 @@ write world session transaction page byte =
     })) told.Ok
 
 -- the change of a transaction of page lines: it makes and frees no page, and leaves page 1
-abbrev pub change_of : World → Transaction → Change
+abbrev pub change_of : World → PageTransaction → Change
 change_of world transaction = record {
   mode = Concurrent;
   base = length (map_number world transaction.snap);
@@ -128,8 +128,8 @@ change_of world transaction = record {
 }
 
 -- what a transaction of page lines hands in
-abbrev pub submitted : World → ℕ → Transaction → Submitted
-submitted world session transaction = record {
+abbrev pub handed_in : World → ℕ → PageTransaction → Submitted
+handed_in world session transaction = record {
   snap = transaction.snap;
   reads = transaction.reads;
   change = change_of world transaction;
@@ -144,11 +144,11 @@ abbrev pub pages_written : List PageImage → List ℕ
 pages_written images = with_pages (1 ∷ []) (map (λ image. image.page) images)
 
 -- the commit that a transaction of page lines becomes
-abbrev pub commit_in : World → ℕ → Transaction → Commit
-commit_in world session transaction = commit_of (submitted world session transaction) (pages_written transaction.changed)
+abbrev pub commit_in : World → ℕ → PageTransaction → Commit
+commit_in world session transaction = commit_of (handed_in world session transaction) (pages_written transaction.changed)
 
 -- COMMIT that nothing bars: one commit and one map more
-abbrev pub committed : World → ℕ → Transaction → Outcome
+abbrev pub committed : World → ℕ → PageTransaction → Outcome
 committed world session transaction = record {
   told = told.Done (At (length world.history + 1));
   world = record world {
@@ -159,12 +159,12 @@ committed world session transaction = record {
 }
 
 -- COMMIT of a transaction that wrote, refused exactly where a page that it read was written since
-abbrev pub decided : World → ℕ → Transaction → Option (ℕ × ℕ) → Outcome
+abbrev pub decided : World → ℕ → PageTransaction → Option (ℕ × ℕ) → Outcome
 decided world session transaction None = committed world session transaction
 decided world session transaction (Some found) = moved world session (Refused transaction) (told.Busy found.0 found.1)
 
 -- COMMIT, in a transaction
-abbrev pub commit : World → ℕ → Transaction → Outcome
+abbrev pub commit : World → ℕ → PageTransaction → Outcome
 commit world session transaction =
     if transaction.wrote
     then decided world session transaction (conflict Concurrent transaction.reads transaction.snap world.history)
@@ -212,9 +212,9 @@ answers_to world [] = []
 answers_to world (act ∷ acts) = (step world act).told ∷ answers_to (step world act).world acts
 
 -- the world after a list of acts
-abbrev pub after : World → List Act → World
-after world [] = world
-after world (act ∷ acts) = after (step world act).world acts
+abbrev pub world_after : World → List Act → World
+world_after world [] = world
+world_after world (act ∷ acts) = world_after (step world act).world acts
 
 -- the world in which nothing has happened yet, over this map
 abbrev pub world_over : PageMap → World

@@ -10,7 +10,7 @@ use Rattle.disk_face.specs.declared.source.Source as sources
 use Rattle.disk_face.specs.declared.sink.Sink as sinks
 use Rattle.page_lines.specs.declared.lines.Act.{Act}
 use Rattle.page_lines.specs.Reply.{reply_text, session_of}
-use Rattle.page_lines.specs.World.{World, step, start, after}
+use Rattle.page_lines.specs.World.{World, step, start, world_after}
 use Rattle.script.specs.declared.grammar.Form.TheVariants.{Pages}
 use Rattle.script.specs.declared.grammar.Line.{Line}
 use Rattle.script.specs.Reading.{line_of}
@@ -143,19 +143,19 @@ front_there None left left' before mid now number old new memory given text said
 front_there (Some script) left left' before mid now number old new memory given text said P s onward same cut meaning front result =
     let later = told_then (script_left old left) (script_left new left') s.rest (Advances next.Line old new) s.told onward in
     let taken : line_in old.passed new.line ≡ Some said = read_as old.passed new.line given text (Some said) same cut meaning later.2.1 in
-    let world = after start (filter_map act_in s.ran) in
+    let world = world_after start (filter_map act_in s.ran) in
     let done = replies start (filter_map act_in s.ran) in
     let last = text-front script (s.ran ++ said ∷ []) (lines_run (old.passed + length new.line) (raw_lines later.0)) (lines-more script number old.passed (script_left old left) before mid memory new.line later.0 said s later.2.0 taken) in
     result script (PutsFront-after before mid now done (replies world (acts_in said)) last.0 (text_of script) s.written (front world s.world)
     (ap (λ x. x ++ last.0) (sym (replies-more s.ran said)) ∙ last.1))
 
 -- the next line was run
-pub goes_on : (from left left' before mid now : Option (List ℕ)) (number : ℕ) (old new : Reading) (memory memory' : Memory) (given text : List ℕ) (said : Line) → IfSome from (λ script. Standing script number old.passed (script_left old left) before mid memory) → WhereTold (script_left old left) (script_left new left') (Advances next.Line old new) → given ≡ new.line → text ≡ text_of_raw given → Some said ≡ line_of Pages text → ((world : World) → IsAt memory world → IsAt memory' (after world (acts_in said)) × Puts mid (replies world (acts_in said)) now) → IfSome from (λ script. Standing script (number + 1) new.passed (script_left new left') before now memory')
+pub goes_on : (from left left' before mid now : Option (List ℕ)) (number : ℕ) (old new : Reading) (memory memory' : Memory) (given text : List ℕ) (said : Line) → IfSome from (λ script. Standing script number old.passed (script_left old left) before mid memory) → WhereTold (script_left old left) (script_left new left') (Advances next.Line old new) → given ≡ new.line → text ≡ text_of_raw given → Some said ≡ line_of Pages text → ((world : World) → IsAt memory world → IsAt memory' (world_after world (acts_in said)) × Puts mid (replies world (acts_in said)) now) → IfSome from (λ script. Standing script (number + 1) new.passed (script_left new left') before now memory')
 goes_on None left left' before mid now number old new memory memory' given text said s onward same cut meaning ran = tt
 goes_on (Some script) left left' before mid now number old new memory memory' given text said s onward same cut meaning ran =
     let later = told_then (script_left old left) (script_left new left') s.rest (Advances next.Line old new) s.told onward in
     let taken : line_in old.passed new.line ≡ Some said = read_as old.passed new.line given text (Some said) same cut meaning later.2.1 in
-    let did = ran (after start (filter_map act_in s.ran)) s.world in
+    let did = ran (world_after start (filter_map act_in s.ran)) s.world in
     Standing-more script number old.passed new.passed (script_left old left) (script_left new left') before mid now memory memory' new.line later.0 said s later.1 later.2.0 later.2.2 taken did.1 did.0
 
 -- what comes next of a script, by what it is

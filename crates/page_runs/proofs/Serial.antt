@@ -7,7 +7,7 @@ use Rattle.page_lines.specs.declared.lines.Act.{Act}
 use Rattle.page_lines.specs.Range.{IsInRange, AreInRange}
 use Rattle.page_lines.specs.Serial.{IsSerial}
 use Rattle.page_lines.specs.Legal.{IsLegalFrom}
-use Rattle.page_lines.specs.World.{zeros, start, after}
+use Rattle.page_lines.specs.World.{zeros, start, world_after}
 use Rattle.page_lines.proofs.SerialRuns.{serial_from_start, legal_from_start}
 use Rattle.script.specs.declared.grammar.Act2.TheVariants as page
 use Rattle.script.specs.declared.grammar.Form.TheVariants.{Pages}
@@ -55,7 +55,7 @@ pub serial_told : (left : Option (List ℕ)) → IfSome left (λ script. IsSeria
 serial_told None = tt
 serial_told (Some script) = serial_from_start (acts_run script) (lines_in_range 0 (raw_lines script))
 
-pub legal_told : (left : Option (List ℕ)) → IfSome left (λ script. (count : ℕ) → IsLegalFrom zeros (after start (take count (acts_run script))))
+pub legal_told : (left : Option (List ℕ)) → IfSome left (λ script. (count : ℕ) → IsLegalFrom zeros (world_after start (take count (acts_run script))))
 legal_told None = tt
 legal_told (Some script) = λ count.
     legal_from_start (take count (acts_run script)) (All-take IsInRange count (acts_run script) (lines_in_range 0 (raw_lines script)))

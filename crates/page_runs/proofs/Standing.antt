@@ -6,7 +6,7 @@ use Rattle.std.proofs.lemmas.Option.{same_Some}
 use Rattle.disk_face.specs.Sink.{Puts}
 use Rattle.page_lines.specs.declared.lines.Act.{Act}
 use Rattle.page_lines.specs.Reply.{reply_text, session_of}
-use Rattle.page_lines.specs.World.{World, step, start, after}
+use Rattle.page_lines.specs.World.{World, step, start, world_after}
 use Rattle.script.specs.declared.grammar.Line.{Line}
 use Rattle.script.specs.Raw.{raw_lines}
 use Rattle.page_runs.specs.InMemory.{Memory, IsAt}
@@ -27,7 +27,7 @@ pub record Standing (script : List ℕ) (number passed : ℕ) (left before now :
   pub lines : lines_run 0 (raw_lines script) ≡ ran ++ lines_run passed (raw_lines rest)
   pub refused : is_refused 0 (raw_lines script) ≡ is_refused passed (raw_lines rest)
   pub written : Puts before (replies start (filter_map act_in ran)) now
-  pub world : IsAt memory (after start (filter_map act_in ran))
+  pub world : IsAt memory (world_after start (filter_map act_in ran))
 
 -- a run that has begun
 pub Standing-start : (script : List ℕ) (left before : Option (List ℕ)) (memory : Memory) → left ≡ Some script → IsAt memory start → Standing script 1 0 left before before memory
@@ -67,23 +67,23 @@ nothing_left held None e = e
 nothing_left held (Some bytes) e = ap Some (no_bytes held bytes (same_Some (held ++ bytes) [] e))
 
 -- replies to acts one after another
-pub replies-append : (world : World) (acts more : List Act) → replies world (acts ++ more) ≡ replies world acts ++ replies (after world acts) more
+pub replies-append : (world : World) (acts more : List Act) → replies world (acts ++ more) ≡ replies world acts ++ replies (world_after world acts) more
 replies-append world [] more = refl
 replies-append world (act ∷ acts) more =
     let reply = reply_text (session_of act) (step world act).told in
     ap (λ x. reply ++ x) (replies-append (step world act).world acts more)
-    ∙ sym (append_assoc reply (replies (step world act).world acts) (replies (after (step world act).world acts) more))
+    ∙ sym (append_assoc reply (replies (step world act).world acts) (replies (world_after (step world act).world acts) more))
 
-pub after-append : (world : World) (acts more : List Act) → after world (acts ++ more) ≡ after (after world acts) more
+pub after-append : (world : World) (acts more : List Act) → world_after world (acts ++ more) ≡ world_after (world_after world acts) more
 after-append world [] more = refl
 after-append world (act ∷ acts) more = after-append (step world act).world acts more
 
 -- the replies to lines that are run, with one line more
-pub replies-more : (ran : List Line) (line : Line) → replies start (filter_map act_in (ran ++ line ∷ [])) ≡ replies start (filter_map act_in ran) ++ replies (after start (filter_map act_in ran)) (acts_in line)
+pub replies-more : (ran : List Line) (line : Line) → replies start (filter_map act_in (ran ++ line ∷ [])) ≡ replies start (filter_map act_in ran) ++ replies (world_after start (filter_map act_in ran)) (acts_in line)
 replies-more ran line = ap (replies start) (filter_map-append act_in ran (line ∷ [])) ∙ replies-append start (filter_map act_in ran) (acts_in line)
 
-pub after-more : (ran : List Line) (line : Line) → after start (filter_map act_in (ran ++ line ∷ [])) ≡ after (after start (filter_map act_in ran)) (acts_in line)
-after-more ran line = ap (after start) (filter_map-append act_in ran (line ∷ [])) ∙ after-append start (filter_map act_in ran) (acts_in line)
+pub after-more : (ran : List Line) (line : Line) → world_after start (filter_map act_in (ran ++ line ∷ [])) ≡ world_after (world_after start (filter_map act_in ran)) (acts_in line)
+after-more ran line = ap (world_after start) (filter_map-append act_in ran (line ∷ [])) ∙ after-append start (filter_map act_in ran) (acts_in line)
 
 -- the text of a run begins with the replies to its first lines
 pub text-front : (script : List ℕ) (ran more : List Line) → lines_run 0 (raw_lines script) ≡ ran ++ more → (last : List ℕ) × (replies start (filter_map act_in ran) ++ last ≡ text_of script)
@@ -91,10 +91,10 @@ text-front script ran more e =
     let acts = filter_map act_in ran in
     let others = filter_map act_in more in
     let last = cond (is_refused 0 (raw_lines script)) (refused_text (1 + length (lines_run 0 (raw_lines script)))) [] in
-    let all : replies start (filter_map act_in (lines_run 0 (raw_lines script))) ≡ replies start acts ++ replies (after start acts) others =
+    let all : replies start (filter_map act_in (lines_run 0 (raw_lines script))) ≡ replies start acts ++ replies (world_after start acts) others =
     ap (λ x. replies start (filter_map act_in x)) e ∙ (ap (replies start) (filter_map-append act_in ran more) ∙ replies-append start acts others) in (
-      replies (after start acts) others ++ last,
-      sym (append_assoc (replies start acts) (replies (after start acts) others) last) ∙ ap (λ x. x ++ last) (sym all),
+      replies (world_after start acts) others ++ last,
+      sym (append_assoc (replies start acts) (replies (world_after start acts) others) last) ∙ ap (λ x. x ++ last) (sym all),
     )
 
 -- the next line is taken
@@ -118,7 +118,7 @@ lines-more script number passed left before now memory raw rest' line s first ta
     ∙ sym (append_assoc s.ran (line ∷ []) (lines_run (passed + length raw) (raw_lines rest'))))
 
 -- one line more was run
-pub Standing-more : (script : List ℕ) (number passed passed' : ℕ) (left left' before now now' : Option (List ℕ)) (memory memory' : Memory) (raw rest' : List ℕ) (line : Line) → (s : Standing script number passed left before now memory) → left' ≡ Some rest' → raw_lines s.rest ≡ raw ∷ raw_lines rest' → passed' ≡ passed + length raw → line_in passed raw ≡ Some line → Puts now (replies (after start (filter_map act_in s.ran)) (acts_in line)) now' → IsAt memory' (after (after start (filter_map act_in s.ran)) (acts_in line)) → Standing script (number + 1) passed' left' before now' memory'
+pub Standing-more : (script : List ℕ) (number passed passed' : ℕ) (left left' before now now' : Option (List ℕ)) (memory memory' : Memory) (raw rest' : List ℕ) (line : Line) → (s : Standing script number passed left before now memory) → left' ≡ Some rest' → raw_lines s.rest ≡ raw ∷ raw_lines rest' → passed' ≡ passed + length raw → line_in passed raw ≡ Some line → Puts now (replies (world_after start (filter_map act_in s.ran)) (acts_in line)) now' → IsAt memory' (world_after (world_after start (filter_map act_in s.ran)) (acts_in line)) → Standing script (number + 1) passed' left' before now' memory'
 Standing-more script number passed passed' left left' before now now' memory memory' raw rest' line s told first size taken written world = record {
   ran = s.ran ++ line ∷ [];
   raws = s.raws ++ raw ∷ [];
@@ -130,6 +130,6 @@ Standing-more script number passed passed' left left' before now now' memory mem
   lines = lines-more script number passed left before now memory raw rest' line s first taken
       ∙ ap (λ p. (s.ran ++ line ∷ []) ++ lines_run p (raw_lines rest')) (sym size);
   refused = s.refused ∙ (ap (is_refused passed) first ∙ (refused-next passed raw (raw_lines rest') line taken ∙ ap (λ p. is_refused p (raw_lines rest')) (sym size)));
-  written = subst (λ x. Puts before x now') (sym (replies-more s.ran line)) (Puts-more before now now' (replies start (filter_map act_in s.ran)) (replies (after start (filter_map act_in s.ran)) (acts_in line)) s.written written);
+  written = subst (λ x. Puts before x now') (sym (replies-more s.ran line)) (Puts-more before now now' (replies start (filter_map act_in s.ran)) (replies (world_after start (filter_map act_in s.ran)) (acts_in line)) s.written written);
   world = subst (IsAt memory') (sym (after-more s.ran line)) world;
 }

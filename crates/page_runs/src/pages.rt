@@ -2,7 +2,7 @@
 ghost use Rattle.std.specs.Prelude.{◌≡◌, ◌⊎◌, IfSome, OnOk, OnErr};
 ghost use Rattle.disk_face.specs.Sink.{Puts};
 ghost use Rattle.page_lines.specs.Reply.{reply_text, session_of};
-ghost use Rattle.page_lines.specs.World.{World, step, after};
+ghost use Rattle.page_lines.specs.World.{World, step, world_after};
 ghost use Rattle.page_runs.specs.InMemory.{IsAt};
 ghost use Rattle.page_lines.specs.Range.{IsInRange};
 ghost use Rattle.page_runs.specs.declared.status.Status.TheVariants as status;
@@ -68,7 +68,7 @@ fn run_line<K: Sink>(
 ) -> Result<(), Unanswered>
     requires range { IfSome (act_in line) IsInRange }
     requires stands { (world : World) × IsAt memory.old world }
-    ensures ok { (world : World) → IsAt memory.old world → OnOk result (IsAt memory.new (after world (acts_in line))
+    ensures ok { (world : World) → IsAt memory.old world → OnOk result (IsAt memory.new (world_after world (acts_in line))
         × Puts (K.written out.old) (replies world (acts_in line)) (K.written out.new)) }
     ensures err { (world : World) → IsAt memory.old world
         → OnErr result (PutsFront (K.written out.old) (replies world (acts_in line)) (K.written out.new)) }

@@ -16,8 +16,8 @@ use Rattle.script.specs.declared.grammar.Form.{Form}
 use Rattle.script.specs.declared.grammar.Form.TheVariants.{Pages}
 use Rattle.script.specs.declared.grammar.Line.{Line}
 use Rattle.script.specs.declared.grammar.Line.TheVariants.{Empty, Page, Copy, Step, Logs}
-use Rattle.script.specs.Line.{IsSession, IsPage, IsInRange, spelling_of, IsComment, Spells}
-use Rattle.script.specs.Reading.{rest_after, number_at, is_empty, is_page, read_of, written_of, write_of, act_of, log_line_of, words_of, numbered_line_of, is_text, page_line_of, line_of}
+use Rattle.script.specs.Line.{IsSession, IsPage, HasLegalNumbers, spelling_of, IsComment, Spells}
+use Rattle.script.specs.Reading.{rest_after, number_at, is_empty, is_page, read_of, written_of, write_of, act_by, log_line_of, line_words, numbered_line_of, is_text, page_line_of, line_of}
 use Rattle.script.proofs.Fronts.{chosen, tested, rest_after-found, rest_after-again, number_at-found, number_at-again}
 
 -- the test that `from_utf8` answered Ok is the test for UTF-8
@@ -54,7 +54,7 @@ passed false b x y e = absurd (none-some y e)
 
 -- the act that these words of the session's line spell
 pub record IsActOf (session : ℕ) (words : List ℕ) (act : Act2) : Type 0 where
-  pub in_range : IsInRange act
+  pub in_range : HasLegalNumbers act
   pub spelled : decimal session ++ (codes ": " ++ words) ≡ spelling_of act
 
 pub read_of-found : (session : ℕ) (words : List ℕ) (act : Act2) → IsSession session → read_of session words ≡ Some act → IsActOf session (codes "READ " ++ words) act
@@ -116,7 +116,7 @@ word_or words name x y others e hit miss =
     ]
 
 -- an act that is one word
-pub one_word : (session : ℕ) (words name : List ℕ) (act given : Act2) → IsInRange act → spelling_of act ≡ decimal session ++ (codes ": " ++ name) → words ≡ name → act ≡ given → IsActOf session words given
+pub one_word : (session : ℕ) (words name : List ℕ) (act given : Act2) → HasLegalNumbers act → spelling_of act ≡ decimal session ++ (codes ": " ++ name) → words ≡ name → act ≡ given → IsActOf session words given
 one_word session words name act given right spelled word same = subst (λ a. IsActOf session words a) same (record { in_range = right; spelled = ap (λ x. decimal session ++ (codes ": " ++ x)) word ∙ sym spelled })
 
 pub longer_act-found : (session : ℕ) (words : List ℕ) (act : Act2) → IsSession session → cond (is_some (rest_after (codes "READ ") words)) (option_and_then (read_of session) (rest_after (codes "READ ") words)) (option_and_then (write_of session) (rest_after (codes "WRITE ") words)) ≡ Some act → IsActOf session words act
@@ -130,8 +130,8 @@ longer_act-found session words act right e =
           subst (λ x. IsActOf session x act) (sym (rest_after-found (codes "WRITE ") words rest.0 rest.1)) (write_of-found session rest.0 act right rest.2)
     ]
 
-pub act_of-found : (session : ℕ) (words : List ℕ) (act : Act2) → IsSession session → act_of session words ≡ Some act → IsActOf session words act
-unfolding act_of
+pub act_of-found : (session : ℕ) (words : List ℕ) (act : Act2) → IsSession session → act_by session words ≡ Some act → IsActOf session words act
+unfolding act_by
 act_of-found session words act right e =
     word_or words (codes "BEGIN") (Begin session) act _ e
     (one_word session words (codes "BEGIN") (Begin session) act right refl)
@@ -162,17 +162,17 @@ pub was_mapped : {A B : Type 0} (f : A → B) (o : Option A) (y : B) → option_
 was_mapped f None y e = absurd (none-some y e)
 was_mapped f (Some x) y e = (x, refl, same_Some (f x) y e)
 
-pub words_of-found : (number : ℕ) (words : List ℕ) (line : Line) → words_of number words ≡ Some line → Spells Pages line (decimal number ++ (codes ": " ++ words))
-unfolding words_of
+pub words_of-found : (number : ℕ) (words : List ℕ) (line : Line) → line_words number words ≡ Some line → Spells Pages line (decimal number ++ (codes ": " ++ words))
+unfolding line_words
 words_of-found number words line e =
-    elim (chosen (eqb number 0) (log_line_of words) (cond (leb number 15) (option_map Page (act_of number words)) None) (Some line) e) [
+    elim (chosen (eqb number 0) (log_line_of words) (cond (leb number 15) (option_map Page (act_by number words)) None) (Some line) e) [
       | inl w ↦
           let zero_is : number ≡ 0 = grind (arith, nat_tests) in
           subst (λ n. Spells Pages line (decimal n ++ (codes ": " ++ words))) (sym zero_is) (log_line_of-found words line w.1)
-      | inr w ↦ elim (chosen (leb number 15) (option_map Page (act_of number words)) None (Some line) w.1) [
+      | inr w ↦ elim (chosen (leb number 15) (option_map Page (act_by number words)) None (Some line) w.1) [
         | inl v ↦
             let right : IsSession number = (grind (arith, nat_tests), grind (arith, nat_tests)) in
-            let found = was_mapped Page (act_of number words) line v.1 in
+            let found = was_mapped Page (act_by number words) line v.1 in
             let act = act_of-found number words found.0 right found.1 in
             subst (λ l. Spells Pages l (decimal number ++ (codes ": " ++ words))) found.2 (act.in_range, act.spelled)
         | inr v ↦ absurd (none-some line v.1)
@@ -182,9 +182,9 @@ words_of-found number words line e =
 pub numbered_line_of-found : (text : List ℕ) (line : Line) → numbered_line_of text ≡ Some line → Spells Pages line text
 unfolding numbered_line_of
 numbered_line_of-found text line e =
-    let found = went_on (λ (found : ℕ × List ℕ). option_and_then (words_of found.0) (rest_after (codes ": ") found.1)) (number_at text) line e in
+    let found = went_on (λ (found : ℕ × List ℕ). option_and_then (line_words found.0) (rest_after (codes ": ") found.1)) (number_at text) line e in
     let number = found.0.0 in
-    let after = went_on (words_of number) (rest_after (codes ": ") found.0.1) line found.2 in
+    let after = went_on (line_words number) (rest_after (codes ": ") found.0.1) line found.2 in
     let all : text ≡ decimal number ++ (codes ": " ++ after.0) =
     (number_at-found text number found.0.1 found.1).spelled ∙ ap (λ x. decimal number ++ x) (rest_after-found (codes ": ") found.0.1 after.0 after.1) in
     subst (λ x. Spells Pages line x) (sym all) (words_of-found number after.0 line after.2)
@@ -232,16 +232,16 @@ page_line_of-found (byte ∷ rest) line e =
       | inr w ↦ numbered_line_of-found (byte ∷ rest) line w.1
     ]
 
-pub act_of-read : (session : ℕ) (rest : List ℕ) → act_of session (codes "READ " ++ rest) ≡ read_of session rest
-unfolding act_of
+pub act_of-read : (session : ℕ) (rest : List ℕ) → act_by session (codes "READ " ++ rest) ≡ read_of session rest
+unfolding act_by
 act_of-read session rest = ap (λ o. cond (is_some o) (option_and_then (read_of session) o) (option_and_then (write_of session) (rest_after (codes "WRITE ") (codes "READ " ++ rest)))) (rest_after-again (codes "READ ") rest)
 
 pub not_read : (rest : List ℕ) → rest_after (codes "READ ") (codes "WRITE " ++ rest) ≡ None
 unfolding rest_after
 not_read rest = refl
 
-pub act_of-write : (session : ℕ) (rest : List ℕ) → act_of session (codes "WRITE " ++ rest) ≡ write_of session rest
-unfolding act_of
+pub act_of-write : (session : ℕ) (rest : List ℕ) → act_by session (codes "WRITE " ++ rest) ≡ write_of session rest
+unfolding act_by
 act_of-write session rest =
     ap (λ o. cond (is_some o) (option_and_then (read_of session) o) (option_and_then (write_of session) (rest_after (codes "WRITE ") (codes "WRITE " ++ rest)))) (not_read rest)
     ∙ ap (λ o. option_and_then (write_of session) o) (rest_after-again (codes "WRITE ") rest)
@@ -270,21 +270,21 @@ write_of-again session page byte right small =
     ∙ written_of-again session page byte right small
 
 -- a line that begins with a number
-pub numbered_line_of-again : (number : ℕ) (words : List ℕ) → number ≤ 255 → numbered_line_of (decimal number ++ (codes ": " ++ words)) ≡ words_of number words
+pub numbered_line_of-again : (number : ℕ) (words : List ℕ) → number ≤ 255 → numbered_line_of (decimal number ++ (codes ": " ++ words)) ≡ line_words number words
 unfolding numbered_line_of
 numbered_line_of-again number words small =
-    ap (λ o. option_and_then (λ (found : ℕ × List ℕ). option_and_then (words_of found.0) (rest_after (codes ": ") found.1)) o) (number_at-again number (codes ": " ++ words) small refl)
-    ∙ ap (λ o. option_and_then (words_of number) o) (rest_after-again (codes ": ") words)
+    ap (λ o. option_and_then (λ (found : ℕ × List ℕ). option_and_then (line_words found.0) (rest_after (codes ": ") found.1)) o) (number_at-again number (codes ": " ++ words) small refl)
+    ∙ ap (λ o. option_and_then (line_words number) o) (rest_after-again (codes ": ") words)
 
-pub words_of-session : (session : ℕ) (words : List ℕ) → IsSession session → words_of session words ≡ option_map Page (act_of session words)
-unfolding words_of
+pub words_of-session : (session : ℕ) (words : List ℕ) → IsSession session → line_words session words ≡ option_map Page (act_by session words)
+unfolding line_words
 words_of-session session words right =
     let some : eqb session 0 ≡ false = grind (arith, nat_tests) in
     let few : leb session 15 ≡ true = grind (arith, nat_tests) in
     rw (some, few) refl
 
-pub words_of-zero : (words : List ℕ) → words_of 0 words ≡ log_line_of words
-unfolding words_of
+pub words_of-zero : (words : List ℕ) → line_words 0 words ≡ log_line_of words
+unfolding line_words
 words_of-zero words = refl
 
 -- no comment begins with a number
@@ -300,7 +300,7 @@ page_line_of-numbered (byte ∷ rest) line e =
     ]
 
 -- a line of a session that says this
-pub session_line : (session : ℕ) (words text : List ℕ) (act : Act2) → IsSession session → act_of session words ≡ Some act → text ≡ decimal session ++ (codes ": " ++ words) → page_line_of text ≡ Some (Page act)
+pub session_line : (session : ℕ) (words text : List ℕ) (act : Act2) → IsSession session → act_by session words ≡ Some act → text ≡ decimal session ++ (codes ": " ++ words) → page_line_of text ≡ Some (Page act)
 session_line session words text act right says spelled =
     subst (λ x. page_line_of x ≡ Some (Page act)) (sym spelled) (
     page_line_of-numbered (decimal session ++ (codes ": " ++ words)) (Page act) (
@@ -313,7 +313,7 @@ pub log_line : (words text : List ℕ) (line : Line) → log_line_of words ≡ S
 log_line words text line says spelled =
     subst (λ x. page_line_of x ≡ Some line) (sym spelled) (
     page_line_of-numbered (codes "0: " ++ words) line (
-    subst (λ x. numbered_line_of (x ++ (codes ": " ++ words)) ≡ words_of 0 words) (decimal_digit 0 (omega arith)) (numbered_line_of-again 0 words (omega arith))
+    subst (λ x. numbered_line_of (x ++ (codes ": " ++ words)) ≡ line_words 0 words) (decimal_digit 0 (omega arith)) (numbered_line_of-again 0 words (omega arith))
     ∙ words_of-zero words
     ∙ says))
 
@@ -325,8 +325,8 @@ comment-again (byte ∷ rest) h =
     let starts : eqb byte 35 ≡ true = grind (arith, nat_tests) in
     rw (starts, is_text-again (byte ∷ rest) h.utf8 h.no_zero) refl
 
-pub page_act-again : (act : Act2) (text : List ℕ) → IsInRange act → text ≡ spelling_of act → page_line_of text ≡ Some (Page act)
-unfolding act_of
+pub page_act-again : (act : Act2) (text : List ℕ) → HasLegalNumbers act → text ≡ spelling_of act → page_line_of text ≡ Some (Page act)
+unfolding act_by
 page_act-again (Begin session) text right spelled = session_line session (codes "BEGIN") text (Begin session) right refl spelled
 page_act-again (Read session page) text right spelled =
     session_line session (codes "READ " ++ decimal page) text (Read session page) right.0 (act_of-read session (decimal page) ∙ read_of-again session page right.1) spelled

@@ -16,12 +16,12 @@ abbrev pub IsPage : ℕ → Type 0
 IsPage number = (2 ≤ number) × (number ≤ 16)
 
 -- the numbers of an act are in their ranges
-abbrev pub IsInRange : Act2 → Type 0
-IsInRange (Begin session) = IsSession session
-IsInRange (Read session page) = IsSession session × IsPage page
-IsInRange (Write session page byte) = IsSession session × IsPage page × (byte ≤ 255)
-IsInRange (Commit session) = IsSession session
-IsInRange (Rollback session) = IsSession session
+abbrev pub HasLegalNumbers : Act2 → Type 0
+HasLegalNumbers (Begin session) = IsSession session
+HasLegalNumbers (Read session page) = IsSession session × IsPage page
+HasLegalNumbers (Write session page byte) = IsSession session × IsPage page × (byte ≤ 255)
+HasLegalNumbers (Commit session) = IsSession session
+HasLegalNumbers (Rollback session) = IsSession session
 
 -- The one spelling of an act. Numbers are decimal, without a leading zero.
 abbrev pub spelling_of : Act2 → List ℕ
@@ -40,7 +40,7 @@ pub record IsComment (text : List ℕ) : Type 0 where
 -- in scripts of this form this text is a line that says so
 abbrev pub Spells : Form → Line → List ℕ → Type 0
 Spells Pages Empty text = (text ≡ []) ⊎ IsComment text
-Spells Pages (Page act) text = IsInRange act × (text ≡ spelling_of act)
+Spells Pages (Page act) text = HasLegalNumbers act × (text ≡ spelling_of act)
 Spells Pages Copy text = text ≡ codes "0: CHECKPOINT"
 Spells Pages Step text = text ≡ codes "0: STEP"
 Spells Pages Logs text = text ≡ codes "0: LOGS"

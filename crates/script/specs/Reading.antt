@@ -54,8 +54,8 @@ write_of session words = option_and_then
     (number_at words)
 
 -- what follows a session's number, colon and blank
-unfoldable pub act_of : ℕ → List ℕ → Option Act2
-act_of session words = if bytes_eq words (codes "BEGIN") then Some (Begin session)
+unfoldable pub act_by : ℕ → List ℕ → Option Act2
+act_by session words = if bytes_eq words (codes "BEGIN") then Some (Begin session)
     else if bytes_eq words (codes "COMMIT") then Some (Commit session)
     else if bytes_eq words (codes "ROLLBACK") then Some (Rollback session)
     else if is_some (rest_after (codes "READ ") words) then option_and_then (read_of session) (rest_after (codes "READ ") words)
@@ -69,15 +69,15 @@ log_line_of words = if bytes_eq words (codes "CHECKPOINT") then Some Copy
     else None
 
 -- what follows the number and its colon and blank
-unfoldable pub words_of : ℕ → List ℕ → Option Line
-words_of number words = if number == 0 then log_line_of words
-    else if nat_le number 15 then option_map Page (act_of number words)
+unfoldable pub line_words : ℕ → List ℕ → Option Line
+line_words number words = if number == 0 then log_line_of words
+    else if nat_le number 15 then option_map Page (act_by number words)
     else None
 
 -- a line that begins with a number
 unfoldable pub numbered_line_of : List ℕ → Option Line
 numbered_line_of text = option_and_then
-    (λ found. option_and_then (words_of found.0) (rest_after (codes ": ") found.1))
+    (λ found. option_and_then (line_words found.0) (rest_after (codes ": ") found.1))
     (number_at text)
 
 -- UTF-8 without a zero byte

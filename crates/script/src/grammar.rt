@@ -1,7 +1,7 @@
 // The lines of a script, and how one is read.
 ghost use Rattle.std.specs.Prelude.{◌≡◌, ◌≤◌, IfSome, IfNone};
 ghost use Rattle.script.specs.Line.{Spells};
-ghost use Rattle.script.specs.Reading.{line_of, page_line_of, numbered_line_of, log_line_of, act_of, read_of, write_of, is_text, is_page};
+ghost use Rattle.script.specs.Reading.{line_of, page_line_of, numbered_line_of, log_line_of, act_by, read_of, write_of, is_text, is_page};
 
 use crate::number::{number_at, rest_after};
 
@@ -78,7 +78,7 @@ fn is_text(bytes: &[u8]) -> bool
     !bytes.contains(&0) && std::str::from_utf8(bytes).is_ok()
 }
 
-#[tactic(auto, unfolding(crate::specs::Reading::numbered_line_of, crate::specs::Reading::words_of))]
+#[tactic(auto, unfolding(crate::specs::Reading::numbered_line_of, crate::specs::Reading::line_words))]
 fn numbered_line(bytes: &[u8]) -> Option<Line>
     ensures { result ≡ numbered_line_of bytes.now }
 {
@@ -108,9 +108,9 @@ fn log_line(words: &[u8]) -> Option<Line>
     }
 }
 
-#[tactic(auto, unfolding(crate::specs::Reading::act_of))]
+#[tactic(auto, unfolding(crate::specs::Reading::act_by))]
 fn act(session: u32, words: &[u8]) -> Option<Act2>
-    ensures { result ≡ act_of session words.now }
+    ensures { result ≡ act_by session words.now }
 {
     if words == b"BEGIN".as_slice() {
         Some(Act2::Begin(session))

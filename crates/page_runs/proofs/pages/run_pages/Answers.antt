@@ -4,7 +4,7 @@ use Rattle.page_runs.specs.declared.lines.Next.TheVariants as next
 use Rattle.page_runs.specs.declared.status.Status.TheVariants as ended
 use Rattle.page_runs.specs.Reading.{script_left}
 use Rattle.page_runs.specs.Reply.{CountsReply}
-use Rattle.page_lines.specs.World.{start, after}
+use Rattle.page_lines.specs.World.{start, world_after}
 use Rattle.page_runs.specs.Outcome.{acts_in, text_of, Ran}
 use Rattle.page_runs.proofs.Serial.{spelled_in_range}
 use Rattle.page_runs.proofs.Fronts.{nothing_yet}
@@ -98,7 +98,7 @@ lines-preserved g c =
     let onward = c.in-Ok-Line.ensures.progress c.in-Ok-Line.field-0-is in
     record {
       standing = goes_on (g.S.Source.left c.args.src.now) (g.S.Source.left c.lines.src) (g.S.Source.left c.advance.new.src) (g.K.Sink.written c.args.out.now) (g.K.Sink.written c.lines.out) (g.K.Sink.written c.run_line.new.out) c.lines.number c.lines.lines c.advance.new.self c.lines.memory c.run_line.new.memory c.line.result.now c.line_text.result.now c.in-Some.line loop.standing (as_next c.in-Ok-Line.field-0 next.Line c.in-Ok-Line.field-0-is (script_left c.lines.lines (g.S.Source.left c.lines.src)) (script_left c.advance.new.self (g.S.Source.left c.advance.new.src)) c.lines.lines c.advance.new.self c.in-Ok-Line.ensures.next) c.line.ensures c.line_text.ensures c.in-Some.ensures.meaning c.in-Ok-run_line.ensures.ok;
-      stands = (after loop.stands.0 (acts_in c.in-Some.line), (c.in-Ok-run_line.ensures.ok loop.stands.0 loop.stands.1).0);
+      stands = (world_after loop.stands.0 (acts_in c.in-Some.line), (c.in-Ok-run_line.ensures.ok loop.stands.0 loop.stands.1).0);
       number = omega (arith, loop.number, onward.0);
       limit = onward.1;
       source_faults = c.in-Ok-Line.ensures.faults ∙ loop.source_faults;

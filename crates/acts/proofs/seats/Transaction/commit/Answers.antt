@@ -4,14 +4,21 @@ use Rattle.page_lines.specs.contracts.raw.RawMeans.TheImpl.{ghosts}
 use Rattle.page_face.specs.declared.prepared.Prepared.{Prepared}
 use Rattle.page_lines.specs.declared.raw.Raw.{Raw}
 use Rattle.acts.specs.declared.seats.Transaction.{Transaction}
-use Rattle.acts.specs.Pagers.{between}
+use Rattle.acts.specs.Pagers.{told_between}
 use Rattle.acts.proofs.Outcomes.{some_by, good, commit_runs, done_stays, done_acts, refuses_during, refused_acts}
 use Rattle.acts.proofs.seats.Transaction.commit.Goals as goal
+
+-- what page lines write is good over each map
+pub commit-requires-clause-good : goal.commit-requires-clause-good
+commit-requires-clause-good g c = λ others first stands.
+    some_by (g.E.EngineTells.map_at c.args.engine.now c.args.self.pin) _
+    (λ snapshot is. good snapshot c.args.self (g.E.EngineTells.state c.args.engine.now).page_size c.new.result c.new-2.result c.new.ensures
+    (g.E.EngineTells.pinned_sizes c.args.engine.now c.args.self.pin snapshot c.requires.live is) c.requires.sound)
 
 pub returns-in-Ok-clause-acts : goal.returns-in-Ok-clause-acts
 returns-in-Ok-clause-acts g c = λ before after moves.
     (let answer = c.in-Ok.ensures.answer in
-    done_acts (between g.E.EngineTells c.args.engine.now c.end.new.self) c.args.who.session c.args.who.ordinal c.args.self _ c.in-Ok.receipt
+    done_acts (told_between g.E.EngineTells c.args.engine.now c.end.new.self) c.args.who.session c.args.who.ordinal c.args.self _ c.in-Ok.receipt
     (g.E.EngineTells.state c.commit.new.self) c.new.result c.new-2.result c.new.ensures c.new-2.ensures refl
     (answer.0, answer.1, answer.2.0) c.end.ensures.event before after moves)
 
@@ -46,7 +53,7 @@ after_refusal-requires g c =
 
 pub returns-in-Err-clause-acts : goal.returns-in-Err-clause-acts
 returns-in-Err-clause-acts g c =
-    refused_acts (between g.E.EngineTells c.args.engine.now c.commit.new.self)
+    refused_acts (told_between g.E.EngineTells c.args.engine.now c.commit.new.self)
     c.args.who.session c.args.who.ordinal c.args.self _ c.in-Err.why c.after_refusal.result.0 c.after_refusal.result.1
     c.new.result c.new-2.result c.new.ensures c.new-2.ensures
     (refuses_during _ _ _ _ c.in-Err.why _ c.new.ensures c.new-2.ensures c.in-Err.ensures.answer.1).0
