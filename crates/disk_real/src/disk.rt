@@ -79,7 +79,8 @@ where
     R::File: LockFile + AsRawFd,
 {
     /// Follows a path that is a symbolic link; the logs stand beside the file that it leads to. It fails where a file that is
-    /// there can't be opened for reading and writing, where another one holds the database, and where a log's name is a link.
+    /// there can't be opened for reading and writing, is no regular file, or has another name, where another one holds the
+    /// database, and where a log's name is a link.
     fn attach(&mut self, path: &[u8]) -> Result<(), Failed>
         requires { is_some self.old.named ≡ false }
         ensures attached { is_some self.new.named ≡ is_ok result }

@@ -16,13 +16,14 @@
 //!   is made of it, since on many systems a second one answers well though the bytes never arrived. A folder that can't be
 //!   opened for its sync, or whose system knows no such sync, is no failure: there the file's name is left to the system.
 //! - **Opening.** `attach` opens the files that are there, once, for reading and writing, and makes none. It fails where one
-//!   of them can't be opened so. A name is UTF-8: std's paths are text, and one that isn't fails.
+//!   of them can't be opened so, is no regular file (a folder, a device, a pipe), or has another name by a hard link. A name
+//!   is UTF-8: std's paths are text, and one that isn't fails.
 //! - **One holder.** The database file is locked when it is opened or made, exclusively and without waiting (flock), and until
 //!   the disk goes; where another one holds it the call fails. Whoever asks for this lock is kept out; that programs that
 //!   don't ask leave the files alone is asked of whoever runs them.
 //! - **Links.** A database's name that is a symbolic link is followed, and the logs stand beside the file that it leads to. A
-//!   log's name that is one is refused, also where the link is put there while the log is opened. A file is made only where
-//!   nothing stands at its name.
+//!   log's name that is one is refused. So is a file in whose place another one or a link is put while it is opened. A file is
+//!   made only where nothing stands at its name.
 //! - **Permissions.** A log that is made takes those of the database file, and its owner and group where this process may
 //!   set them.
 //! - **Standard streams.** Where the program was started with one of the first three descriptors closed, it is filled before

@@ -1,6 +1,6 @@
 // How a database's files are opened and made.
 ghost use Rattle.std.specs.Prelude.{◌≡◌, IfOk, IfSome};
-ghost use Rattle.std.specs.Fs.{file_type, IsSymlink};
+ghost use Rattle.std.specs.Fs.{file_type, IsFile};
 
 use crate::again::uninterrupted;
 use crate::lock::LockFile;
@@ -14,13 +14,12 @@ use std::{fs, io};
 // Who may read, write and run a file.
 const PERMISSIONS: u32 = 0o777;
 
-/// Opens and locks the database file, if it is there. It fails where it can't be opened for reading and writing, and where
-/// another one holds it.
+/// Opens and locks the database file, if it is there. It fails where [`open_file`] does, and where another one holds it.
 pub(crate) fn open_database<R: Files>(rt: &R, path: &str) -> io::Result<Option<R::File>>
 where
     R::File: LockFile,
 {
-    let opened = open_there(rt, path)?;
+    let opened = open_file(rt, path)?;
     if let Some(file) = &opened {
         uninterrupted(|| file.lock_alone())?;
     }
@@ -39,9 +38,10 @@ where
     Ok(file)
 }
 
-/// Opens a log, if it is there. It fails where it can't be opened for reading and writing, and where a symbolic link stands
-/// at its name. No way to open says that a link isn't to be followed: so what was opened has to be what stands there.
-pub(crate) fn open_log<R: Files>(rt: &R, path: &str) -> io::Result<Option<R::File>> {
+/// Opens one of the three files, if it is there. It fails where it can't be opened for reading and writing, and where something
+/// else than a regular file with one name stands at its name. No way to open says that a link isn't to be followed: so what was
+/// opened has to be what stands there.
+pub(crate) fn open_file<R: Files>(rt: &R, path: &str) -> io::Result<Option<R::File>> {
     if stands_at(rt, path)?.is_none() {
         return Ok(None);
     }
@@ -51,7 +51,7 @@ pub(crate) fn open_log<R: Files>(rt: &R, path: &str) -> io::Result<Option<R::Fil
     let opened = uninterrupted(|| file.metadata())?;
     match stands_at(rt, path)? {
         Some(stands) if is_same(&stands, &opened) => Ok(Some(file)),
-        _ => Err(io::Error::from(ErrorKind::FilesystemLoop)),
+        _ => Err(io::Error::from(ErrorKind::InvalidInput)),
     }
 }
 
@@ -98,22 +98,26 @@ fn open_there<R: Files>(rt: &R, path: &str) -> io::Result<Option<R::File>> {
     }
 }
 
-/// What stands at a log's name, if anything does. A link is refused, wherever it leads.
+/// What stands at a file's name, if anything does. Whatever isn't a regular file is refused, a link too, wherever it leads. So
+/// is a file with another name beside this one: by that name it would have logs of its own, and either set would lack the
+/// commits of the other.
 fn stands_at<R: Files>(rt: &R, path: &str) -> io::Result<Option<Metadata>>
-    ensures { IfOk result (λ found. IfSome found (λ found. ¬ IsSymlink (file_type found))) }
+    ensures { IfOk result (λ found. IfSome found (λ found. IsFile (file_type found))) }
 {
     match uninterrupted(|| fs::symlink_metadata(rt, path)) {
-        Ok(found) if found.is_symlink() => Err(io::Error::from(ErrorKind::FilesystemLoop)),
-        Ok(found) => Ok(Some(found)),
+        Ok(found) if found.is_file() && found.nlink() <= 1 => Ok(Some(found)),
+        Ok(_) => Err(io::Error::from(ErrorKind::InvalidInput)),
         Err(error) if error.kind() == ErrorKind::NotFound => Ok(None),
         Err(error) => Err(error),
     }
 }
 
-/// Says whether there is such a file whose first byte isn't 0.
+/// Says whether there is such a file whose first byte isn't 0. It fails where something else than a regular file is there:
+/// a read of a pipe would wait.
 pub(crate) fn is_hot<R: Files>(rt: &R, path: &str) -> io::Result<bool> {
-    match uninterrupted(|| fs::open(rt, path)) {
-        Ok(file) => begins_hot(file),
+    match uninterrupted(|| fs::metadata(rt, path)) {
+        Ok(found) if found.is_file() => begins_hot(uninterrupted(|| fs::open(rt, path))?),
+        Ok(_) => Err(io::Error::from(ErrorKind::InvalidInput)),
         Err(error) if error.kind() == ErrorKind::NotFound => Ok(false),
         Err(error) => Err(error),
     }

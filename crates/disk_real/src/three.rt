@@ -3,7 +3,7 @@ use crate::file::RealFile;
 use crate::folder::Folder;
 use crate::lock::LockFile;
 use crate::names::Names;
-use crate::opening::{make_database, make_log, open_database, open_log};
+use crate::opening::{make_database, make_log, open_database, open_file};
 use crate::standard::Standard;
 use disk_face::File;
 use std::alloc::Global;
@@ -52,8 +52,8 @@ impl<F: Read + Write + Seek + OpenFile + LockFile + AsRawFd + Drop> ThreeFiles<F
     pub(crate) fn open<R: Files<File = F>>(&mut self, rt: &R, names: &Names) -> io::Result<()> {
         self.standard.fill(rt)?;
         let main = open_database(rt, names.file(File::Main))?;
-        let log1 = open_log(rt, names.file(File::Log1))?;
-        let log2 = open_log(rt, names.file(File::Log2))?;
+        let log1 = open_file(rt, names.file(File::Log1))?;
+        let log2 = open_file(rt, names.file(File::Log2))?;
         self.main = RealFile::new(main);
         self.log1 = RealFile::new(log1);
         self.log2 = RealFile::new(log2);

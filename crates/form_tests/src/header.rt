@@ -1,4 +1,5 @@
 use db_header::{Header, HeaderFault, read_header, write_header};
+use std::alloc::{AllocError, Global};
 use std::test::Fail;
 
 /// The first 100 bytes of the file that sqlite3 3.40.1 makes of
@@ -24,15 +25,23 @@ const STOCK_HEADER: Header = Header {
     encoding: 1,
 };
 
-/// The stock header with some bytes changed, each at its offset.
-fn changed(changes: &[(usize, u8)]) -> [u8; 100] {
+/// The stock header with three bytes changed: of each its offset and what stands there then. Offset 100 lies behind
+/// the header: it is given where fewer are changed.
+type Change = [u8; 6];
+
+fn changed(change: &Change) -> [u8; 100] {
     let mut bytes = *STOCK;
-    for (at, byte) in changes {
-        if *at < 100 {
-            bytes[*at] = *byte;
-        }
-    }
+    let [first, first_byte, second, second_byte, third, third_byte] = *change;
+    put(&mut bytes, first, first_byte);
+    put(&mut bytes, second, second_byte);
+    put(&mut bytes, third, third_byte);
     bytes
+}
+
+fn put(bytes: &mut [u8; 100], at: u8, byte: u8) {
+    if at < 100 {
+        bytes[at as usize] = byte;
+    }
 }
 
 #[test]
@@ -49,75 +58,124 @@ fn a_stock_header_is_read_and_written(rt: HostRuntime) {
     assert_eq!(rt; page[96], 0xff);
 }
 
+/// Headers that don't tell the size any more, with the file's length, the change counter and the size that follows.
+const STALE: [(Change, u64, u32, u32); 5] = [
+    ([100, 0, 100, 0, 100, 0], 40960, 3, 2),
+    ([27, 4, 100, 0, 100, 0], 40960, 4, 10),
+    ([95, 4, 100, 0, 100, 0], 45055, 3, 10),
+    ([31, 0, 100, 0, 100, 0], 4096, 3, 1),
+    ([31, 0, 100, 0, 100, 0], 4095, 3, 0),
+];
+
 #[test]
 fn the_size_of_a_stale_header_is_that_of_the_file(rt: HostRuntime) {
-    let cases: [(&[(usize, u8)], u64, u32); 5] = [
-        (&[], 40960, 2),
-        (&[(27, 4)], 40960, 10),
-        (&[(95, 4)], 45055, 10),
-        (&[(31, 0)], 4096, 1),
-        (&[(31, 0)], 4095, 0),
-    ];
-    for (changes, file_size, pages) in cases {
-        let mut header = STOCK_HEADER;
-        header.pages = pages;
-        header.change = if changes.len() == 1 && changes[0].0 == 27 {
-            4
-        } else {
-            3
+    for (change, length, counter, pages) in &STALE {
+        let header = Header {
+            change: *counter,
+            pages: *pages,
+            ..STOCK_HEADER
         };
-        assert_eq!(rt; read_header(&changed(changes), file_size), Ok(header));
+        assert_eq!(rt; read_header(&changed(change), *length), Ok(header));
     }
 }
 
+/// Headers that are refused. Where several fields are wrong the first in the order of the checks is told.
+const REFUSED: [Change; 23] = [
+    [0, b's', 100, 0, 100, 0],
+    [15, 1, 100, 0, 100, 0],
+    [21, 65, 100, 0, 100, 0],
+    [22, 33, 100, 0, 100, 0],
+    [23, 31, 100, 0, 100, 0],
+    [0, b's', 17, 1, 100, 0],
+    [17, 1, 100, 0, 100, 0],
+    [16, 0, 100, 0, 100, 0],
+    [16, 1, 100, 0, 100, 0],
+    [17, 1, 18, 2, 100, 0],
+    [18, 2, 100, 0, 100, 0],
+    [18, 4, 19, 4, 100, 0],
+    [18, 0, 19, 0, 100, 0],
+    [18, 2, 59, 2, 100, 0],
+    [59, 2, 100, 0, 100, 0],
+    [59, 2, 55, 4, 100, 0],
+    [55, 4, 100, 0, 100, 0],
+    [55, 4, 16, 2, 20, 33],
+    [16, 2, 20, 33, 100, 0],
+    [16, 2, 20, 33, 47, 5],
+    [47, 5, 100, 0, 100, 0],
+    [47, 5, 29, 4, 100, 0],
+    [29, 4, 100, 0, 100, 0],
+];
+
+/// The reasons in their order.
+const REASONS: &str = "not a database
+not a database
+not a database
+not a database
+not a database
+not a database
+page size 4097
+page size 0
+page size 256
+page size 4097
+versions 2 1
+versions 4 4
+versions 0 0
+versions 2 1
+encoding 2
+encoding 2
+auto-vacuum 4
+auto-vacuum 4
+reserved 33
+reserved 33
+format 5
+format 5
+too large 262146
+";
+
 #[test]
-fn refusals_come_in_their_order(rt: HostRuntime) {
+fn refusals_come_in_their_order_with_their_reasons(rt: HostRuntime) -> Result<(), Fail> {
+    assert_eq!(rt; reasons(rt.alloc())?.as_str(), REASONS);
     assert_eq!(rt; read_header(&STOCK[..99], 8192), Err(HeaderFault::NotADb));
-    let cases: [(&[(usize, u8)], HeaderFault); 23] = [
-        (&[(0, b's')], HeaderFault::NotADb),
-        (&[(15, 1)], HeaderFault::NotADb),
-        (&[(21, 65)], HeaderFault::NotADb),
-        (&[(22, 33)], HeaderFault::NotADb),
-        (&[(23, 31)], HeaderFault::NotADb),
-        (&[(0, b's'), (17, 1)], HeaderFault::NotADb),
-        (&[(17, 1)], HeaderFault::PageSize(4097)),
-        (&[(16, 0)], HeaderFault::PageSize(0)),
-        (&[(16, 1)], HeaderFault::PageSize(256)),
-        (&[(17, 1), (18, 2)], HeaderFault::PageSize(4097)),
-        (&[(18, 2)], HeaderFault::Versions(2, 1)),
-        (&[(18, 4), (19, 4)], HeaderFault::Versions(4, 4)),
-        (&[(18, 0), (19, 0)], HeaderFault::Versions(0, 0)),
-        (&[(18, 2), (59, 2)], HeaderFault::Versions(2, 1)),
-        (&[(59, 2)], HeaderFault::Utf16(2)),
-        (&[(59, 2), (55, 4)], HeaderFault::Utf16(2)),
-        (&[(55, 4)], HeaderFault::AutoVacuum(4)),
-        (&[(55, 4), (16, 2), (20, 33)], HeaderFault::AutoVacuum(4)),
-        (&[(16, 2), (20, 33)], HeaderFault::Reserved(33)),
-        (&[(16, 2), (20, 33), (47, 5)], HeaderFault::Reserved(33)),
-        (&[(47, 5)], HeaderFault::Format(5)),
-        (&[(47, 5), (29, 4)], HeaderFault::Format(5)),
-        (&[(29, 4)], HeaderFault::TooLarge { pages: 262146 }),
-    ];
-    for (changes, fault) in cases {
-        assert_eq!(rt; read_header(&changed(changes), 8192), Err(fault));
+    Ok(())
+}
+
+fn reasons(alloc: Global) -> Result<String, AllocError> {
+    let mut text = String::new(alloc);
+    for change in &REFUSED {
+        let reason = reason(alloc, change)?;
+        text.push_str(reason.as_str())?;
+    }
+    Ok(text)
+}
+
+fn reason(alloc: Global, change: &Change) -> Result<String, AllocError> {
+    match read_header(&changed(change), 8192) {
+        Ok(_) => format!(in alloc; "taken\n"),
+        Err(fault) => format!(in alloc; "{fault}\n"),
     }
 }
 
+/// The last values that pass, with the page size and the size in pages that are read.
+const TAKEN: [(Change, u32, u32); 6] = [
+    ([16, 2, 20, 32, 100, 0], 512, 2),
+    ([16, 0, 17, 1, 59, 0], 65536, 2),
+    ([47, 0, 100, 0, 100, 0], 4096, 2),
+    ([18, 2, 19, 2, 100, 0], 4096, 2),
+    ([18, 3, 19, 3, 100, 0], 4096, 2),
+    ([29, 4, 31, 0, 100, 0], 4096, 262144),
+];
+
 #[test]
-fn the_last_values_that_pass(rt: HostRuntime) -> Result<(), Fail> {
-    let cases: [(&[(usize, u8)], u32, u32); 5] = [
-        (&[(16, 2), (20, 32)], 512, 2),
-        (&[(16, 0), (17, 1), (59, 0), (47, 0)], 65536, 2),
-        (&[(18, 2), (19, 2)], 4096, 2),
-        (&[(18, 3), (19, 3)], 4096, 2),
-        (&[(29, 4), (31, 0)], 4096, 262144),
-    ];
-    for (changes, page_size, pages) in cases {
-        let header = read_header(&changed(changes), 8192)?;
-        assert_eq!(rt;
-            (header.page_size, header.pages, header.encoding),
-            (page_size, pages, 1)
-        );
+fn the_last_values_that_pass(rt: HostRuntime) {
+    for (change, page_size, pages) in &TAKEN {
+        let read = sizes(change);
+        assert_eq!(rt; read, Some((*page_size, *pages, 1)));
     }
-    Ok(())
+}
+
+fn sizes(change: &Change) -> Option<(u32, u32, u32)> {
+    match read_header(&changed(change), 8192) {
+        Ok(header) => Some((header.page_size, header.pages, header.encoding)),
+        Err(_) => None,
+    }
 }

@@ -1,5 +1,4 @@
-//! Tests of the byte forms, of logs and of the lines of scripts. They stand apart, since a crate with tests of its own is proved
-//! twice.
+//! Tests of the byte forms and of the lines of scripts. They stand apart, since a crate with tests of its own is proved twice.
 #![tactic(auto)]
 
 #[cfg(test)]
@@ -8,9 +7,5 @@ mod fields;
 mod header;
 #[cfg(test)]
 mod lines;
-#[cfg(test)]
-mod log_headers;
-#[cfg(test)]
-mod log_scan;
 #[cfg(test)]
 mod stock_headers;

@@ -23,8 +23,8 @@ pub(crate) const LITTLE_MAGIC: u32 = 0x377f_0682;
 /// The version that this project's logs have.
 pub(crate) const OWN_VERSION: u32 = 93_021_000;
 
-/// The greatest generation of a header that is ours.
-const GREATEST_GENERATION: u32 = 4_000_000_000;
+/// The last generation of a header that is ours (`last_generation` of `log_spec`).
+const LAST_GENERATION: u32 = 4_000_000_000;
 
 /// What the bytes of log 1 or log 2 begin with. There may be more bytes than a header has.
 pub fn read_log_header(bytes: &[u8], log: u8) -> Front
@@ -86,7 +86,7 @@ fn is_generation(log: u8, generation: u32) -> bool
     ensures { result ≡ is_generation log generation }
 {
     let parity = if log == 1 { 1 } else { 0 };
-    1 <= generation && generation <= GREATEST_GENERATION && generation % 2 == parity
+    1 <= generation && generation <= LAST_GENERATION && generation % 2 == parity
 }
 
 /// What a header tells.

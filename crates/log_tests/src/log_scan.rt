@@ -11,63 +11,37 @@ use wal_frames::{Accepted, Front, LogHeader, ScanFault, Sum, accepted};
 const HEADER: [u8; 32] = *b"\x37\x7f\x06\x83\x05\x8b\x63\x48\x00\x00\x02\x00\x00\x00\x00\x01\
 \x00\x00\x00\x01\x00\x00\x00\x05\x26\x1d\x4e\x69\xd7\xb1\x2a\x88";
 
-/// The first bytes of a frame, and the byte that fills its page.
-#[derive(Clone, Copy)]
-struct FrameText {
-    head: [u8; 24],
-    fill: u8,
-}
+/// Frames after that header: of each its first 24 bytes, and the byte that fills its page. The second and the fourth end a commit.
+const FRAMES: &[u8; 100] =
+    b"\x00\x00\x00\x01\x00\x00\x00\x00\x00\x00\x00\x01\x00\x00\x00\x05\xb2\x89\x77\x73\x8f\xc1\x9d\x78\x07\
+\x00\x00\x00\x02\x00\x00\x00\x02\x00\x00\x00\x01\x00\x00\x00\x05\xd0\xf2\x0d\x24\x0b\xa5\x9e\x7f\x08\
+\x00\x00\x00\x03\x00\x00\x00\x00\x00\x00\x00\x01\x00\x00\x00\x05\x49\x62\x5d\x30\xb9\x29\x72\x3e\x09\
+\x00\x00\x00\x01\x00\x00\x00\x03\x00\x00\x00\x01\x00\x00\x00\x05\x8b\xef\x02\xcd\xc7\x3a\xc8\x47\x0a";
 
-/// Four frames after that header. The second and the last end a commit.
-const FRAMES: [FrameText; 4] = [
-    FrameText {
-        head: *b"\x00\x00\x00\x01\x00\x00\x00\x00\x00\x00\x00\x01\x00\x00\x00\x05\xb2\x89\x77\x73\x8f\xc1\x9d\x78",
-        fill: 7,
-    },
-    FrameText {
-        head: *b"\x00\x00\x00\x02\x00\x00\x00\x02\x00\x00\x00\x01\x00\x00\x00\x05\xd0\xf2\x0d\x24\x0b\xa5\x9e\x7f",
-        fill: 8,
-    },
-    FrameText {
-        head: *b"\x00\x00\x00\x03\x00\x00\x00\x00\x00\x00\x00\x01\x00\x00\x00\x05\x49\x62\x5d\x30\xb9\x29\x72\x3e",
-        fill: 9,
-    },
-    FrameText {
-        head: *b"\x00\x00\x00\x01\x00\x00\x00\x03\x00\x00\x00\x01\x00\x00\x00\x05\x8b\xef\x02\xcd\xc7\x3a\xc8\x47",
-        fill: 10,
-    },
-];
+/// The first two of those, and two that go on after them with right checksums, of which the first has page number 0.
+const UNNUMBERED: &[u8; 100] =
+    b"\x00\x00\x00\x01\x00\x00\x00\x00\x00\x00\x00\x01\x00\x00\x00\x05\xb2\x89\x77\x73\x8f\xc1\x9d\x78\x07\
+\x00\x00\x00\x02\x00\x00\x00\x02\x00\x00\x00\x01\x00\x00\x00\x05\xd0\xf2\x0d\x24\x0b\xa5\x9e\x7f\x08\
+\x00\x00\x00\x00\x00\x00\x00\x00\x00\x00\x00\x01\x00\x00\x00\x05\x69\x5e\xfc\x8a\xcc\x88\x91\x49\x09\
+\x00\x00\x00\x01\x00\x00\x00\x03\x00\x00\x00\x01\x00\x00\x00\x05\xae\x7f\x7b\x6e\x07\x8d\xba\xe0\x0a";
 
-/// Two frames that go on after the second of those with right checksums, of which the first has page number 0.
-const UNNUMBERED: [FrameText; 2] = [
-    FrameText {
-        head: *b"\x00\x00\x00\x00\x00\x00\x00\x00\x00\x00\x00\x01\x00\x00\x00\x05\x69\x5e\xfc\x8a\xcc\x88\x91\x49",
-        fill: 9,
-    },
-    FrameText {
-        head: *b"\x00\x00\x00\x01\x00\x00\x00\x03\x00\x00\x00\x01\x00\x00\x00\x05\xae\x7f\x7b\x6e\x07\x8d\xba\xe0",
-        fill: 10,
-    },
-];
-
-/// A header of generation 3 with other salts, and a frame after it that ends a commit of 4 pages.
+/// A header of generation 3 with other salts, and a frame after it that ends a commit of 4 pages. Behind that are frames of
+/// generation 1.
 const LATER_HEADER: [u8; 32] = *b"\x37\x7f\x06\x83\x05\x8b\x63\x48\x00\x00\x02\x00\x00\x00\x00\x03\
 \x00\x00\x00\x02\x00\x00\x00\x07\x26\x1d\x4e\x6c\xd7\xb1\x2a\x8f";
 
-const LATER_FRAME: FrameText = FrameText {
-    head: *b"\x00\x00\x00\x09\x00\x00\x00\x04\x00\x00\x00\x02\x00\x00\x00\x07\xd3\xdc\xe5\xed\x30\xc1\xff\x46",
-    fill: 6,
-};
+const LATER_FRAMES: &[u8; 75] =
+    b"\x00\x00\x00\x09\x00\x00\x00\x04\x00\x00\x00\x02\x00\x00\x00\x07\xd3\xdc\xe5\xed\x30\xc1\xff\x46\x06\
+\x00\x00\x00\x02\x00\x00\x00\x02\x00\x00\x00\x01\x00\x00\x00\x05\xd0\xf2\x0d\x24\x0b\xa5\x9e\x7f\x08\
+\x00\x00\x00\x01\x00\x00\x00\x03\x00\x00\x00\x01\x00\x00\x00\x05\x8b\xef\x02\xcd\xc7\x3a\xc8\x47\x0a";
 
 /// A header of log 2, whose words are summed with the least significant byte first, and a frame after it that ends a commit of
 /// 6 pages.
 const EVEN_HEADER: [u8; 32] = *b"\x37\x7f\x06\x82\x05\x8b\x63\x48\x00\x00\x02\x00\x00\x00\x00\x02\
 \x00\x00\x00\x01\x00\x00\x00\x05\x66\x4f\x1d\x22\x84\x2b\xb0\xd1";
 
-const EVEN_FRAME: FrameText = FrameText {
-    head: *b"\x00\x00\x00\x04\x00\x00\x00\x06\x00\x00\x00\x01\x00\x00\x00\x05\xfc\xa3\x44\xc0\x13\xa6\xf5\x45",
-    fill: 5,
-};
+const EVEN_FRAMES: &[u8; 25] =
+    b"\x00\x00\x00\x04\x00\x00\x00\x06\x00\x00\x00\x01\x00\x00\x00\x05\xfc\xa3\x44\xc0\x13\xa6\xf5\x45\x05";
 
 /// A header for pages of 65,536 bytes, and the first bytes of a frame after it that ends a commit of 3 pages.
 const WIDE_HEADER: [u8; 32] = *b"\x37\x7f\x06\x83\x05\x8b\x63\x48\x00\x01\x00\x00\x00\x00\x00\x01\
@@ -75,9 +49,6 @@ const WIDE_HEADER: [u8; 32] = *b"\x37\x7f\x06\x83\x05\x8b\x63\x48\x00\x01\x00\x0
 
 const WIDE_HEAD: [u8; 24] =
     *b"\x00\x00\x00\x03\x00\x00\x00\x03\x00\x00\x00\x01\x00\x00\x00\x05\x5f\x09\x4b\x71\x3d\xba\xc7\x00";
-
-/// How many bytes a frame with a page of 512 bytes has.
-const FRAME_SIZE: usize = 536;
 
 /// The sums after the header and after two and four frames.
 const START: Sum = Sum {
@@ -95,19 +66,30 @@ const AFTER_FOUR: Sum = Sum {
     s1: 3342518343,
 };
 
-fn add_frames(log: &mut Vec<u8>, frames: &[FrameText]) -> Result<(), AllocError> {
-    for frame in frames {
-        log.extend_from_slice(&frame.head)?;
-        log.extend_from_slice(&[frame.fill; 512])?;
+const AFTER_LATER: Sum = Sum {
+    s0: 3554469357,
+    s1: 818020166,
+};
+
+const AFTER_EVEN: Sum = Sum {
+    s0: 4238558400,
+    s1: 329708869,
+};
+
+/// A log of a header and of frames, each told by 25 bytes.
+fn log_of(alloc: Global, header: &[u8], frames: &[u8]) -> Result<Vec<u8>, AllocError> {
+    let mut log = header.to_vec(alloc)?;
+    for frame in frames.chunks_exact(25) {
+        let (head, fill) = frame.split_at(24);
+        log.extend_from_slice(head)?;
+        log.resize(log.len() + 512, fill[0])?;
     }
-    Ok(())
+    Ok(log)
 }
 
 /// The log of the four frames.
-fn four_frames(alloc: Global) -> Result<Vec<u8>, AllocError> {
-    let mut log = HEADER.to_vec(alloc)?;
-    add_frames(&mut log, &FRAMES)?;
-    Ok(log)
+pub(crate) fn four_frames(alloc: Global) -> Result<Vec<u8>, AllocError> {
+    log_of(alloc, &HEADER, FRAMES)
 }
 
 /// What is accepted of these bytes as log 1 or log 2.
@@ -129,7 +111,7 @@ fn accept(alloc: Global, bytes: Vec<u8>, log: u8) -> Result<Accepted, ScanFault>
 }
 
 /// Whether so many of the four frames were found: none, two or all.
-fn has_frames(found: &Accepted, count: usize) -> bool {
+pub(crate) fn has_frames(found: &Accepted, count: usize) -> bool {
     let (size, sum) = match count {
         0 => (0, START),
         2 => (2, AFTER_TWO),
@@ -187,70 +169,70 @@ fn a_log_without_a_whole_header_is_nothing(rt: HostRuntime) -> Result<(), test::
 fn a_frame_that_is_torn_ends_the_log(rt: HostRuntime) -> Result<(), test::Fail> {
     // The last byte of each number of a frame, and the first and the last byte of its page.
     let fields = [3, 7, 11, 15, 19, 23, 24, 535];
-    // Which frame is torn, and how many are accepted.
-    for (frame, count) in [(0, 0), (1, 0), (2, 2), (3, 2)] {
-        for field in fields {
-            let mut log = four_frames(rt.alloc())?;
-            let at = HEADER.len() + FRAME_SIZE * frame + field;
-            assert!(rt; at < log.len());
-            log[at] = 0xee;
-            let found = accept(rt.alloc(), log, 1)?;
-            assert!(rt; has_frames(&found, count), "torn at {at}");
-        }
+    for field in fields {
+        assert!(rt;
+            ends_where_torn(rt.alloc(), 32 + field, 0)?,
+            "first at {field}"
+        );
+        assert!(rt;
+            ends_where_torn(rt.alloc(), 568 + field, 0)?,
+            "second at {field}"
+        );
+        assert!(rt;
+            ends_where_torn(rt.alloc(), 1104 + field, 2)?,
+            "third at {field}"
+        );
+        assert!(rt;
+            ends_where_torn(rt.alloc(), 1640 + field, 2)?,
+            "last at {field}"
+        );
     }
     Ok(())
 }
 
-#[test]
-fn page_number_0_ends_the_log(rt: HostRuntime) -> Result<(), test::Fail> {
-    let mut log = four_frames(rt.alloc())?;
-    log.truncate(1104);
-    add_frames(&mut log, &UNNUMBERED)?;
-    let found = accept(rt.alloc(), log, 1)?;
-    assert!(rt; has_frames(&found, 2));
-    Ok(())
-}
-
-#[test]
-fn frames_of_an_earlier_generation_are_left(rt: HostRuntime) -> Result<(), test::Fail> {
-    let mut log = LATER_HEADER.to_vec(rt.alloc())?;
-    add_frames(&mut log, &[LATER_FRAME])?;
-    add_frames(&mut log, &FRAMES[1..])?;
-    let found = accept(rt.alloc(), log, 1)?;
-    assert_eq!(rt; found.pages.as_slice(), [9u32].as_slice());
-    assert_eq!(rt; found.size, 4);
-    assert_eq!(rt;
-        found.sum,
-        Sum {
-            s0: 3554469357,
-            s1: 818020166
-        }
-    );
-    Ok(())
-}
-
-#[test]
-fn an_even_generation_belongs_to_log_2(rt: HostRuntime) -> Result<(), test::Fail> {
-    let mut log = EVEN_HEADER.to_vec(rt.alloc())?;
-    add_frames(&mut log, &[EVEN_FRAME])?;
-    let found = accept(rt.alloc(), log.clone()?, 1)?;
-    let foreign = Front::Foreign {
-        version: 93021000,
-        at: 12,
+/// Whether so many frames are accepted where a byte of a frame is another one.
+fn ends_where_torn(alloc: Global, at: usize, count: usize) -> Result<bool, ScanFault> {
+    let Ok(mut log) = four_frames(alloc) else {
+        return Err(ScanFault::Memory);
     };
-    assert_eq!(rt; found.front, foreign);
-    assert_eq!(rt; found.pages.len(), 0);
-    let found = accept(rt.alloc(), log, 2)?;
-    assert_eq!(rt; found.pages.as_slice(), [4u32].as_slice());
-    assert_eq!(rt; found.size, 6);
-    assert_eq!(rt;
-        found.sum,
-        Sum {
-            s0: 4238558400,
-            s1: 329708869
-        }
+    match log.get_mut(at) {
+        Some(byte) => *byte = 0xee,
+        None => return Ok(false),
+    }
+    Ok(has_frames(&accept(alloc, log, 1)?, count))
+}
+
+#[test]
+fn frames_are_those_of_the_header(rt: HostRuntime) -> Result<(), test::Fail> {
+    let alloc = rt.alloc();
+    let log = log_of(alloc, &HEADER, UNNUMBERED)?;
+    assert!(rt;
+        finds(alloc, log, 1, &[1, 2], 2, AFTER_TWO)?,
+        "page number 0 ends the log"
     );
+    let log = log_of(alloc, &LATER_HEADER, LATER_FRAMES)?;
+    assert!(rt;
+        finds(alloc, log, 1, &[9], 4, AFTER_LATER)?,
+        "another generation's"
+    );
+    let log = log_of(alloc, &EVEN_HEADER, EVEN_FRAMES)?;
+    assert!(rt; finds(alloc, log, 2, &[4], 6, AFTER_EVEN)?, "log 2");
     Ok(())
+}
+
+/// Whether these pages are found in a log, this size and this sum.
+fn finds(
+    alloc: Global,
+    bytes: Vec<u8>,
+    log: u8,
+    pages: &[u32],
+    size: u32,
+    sum: Sum,
+) -> Result<bool, ScanFault>
+    requires { (log ≡ 1) ⊎ (log ≡ 2) }
+{
+    let found = accept(alloc, bytes, log)?;
+    Ok(found.pages.as_slice() == pages && found.size == size && found.sum == sum)
 }
 
 #[test]
@@ -280,7 +262,13 @@ struct ForeignHeader {
     at: u64,
 }
 
-const FOREIGN: [ForeignHeader; 6] = [
+const FOREIGN: [ForeignHeader; 7] = [
+    // Generation 2.
+    ForeignHeader {
+        bytes: EVEN_HEADER,
+        version: 93021000,
+        at: 12,
+    },
     // Version 3007000.
     ForeignHeader {
         bytes: *b"\x37\x7f\x06\x83\x00\x2d\xe2\x18\x00\x00\x02\x00\x00\x00\x00\x01\

@@ -1,0 +1,64 @@
+// Headers of logs of new databases that sqlite3 3.40.1 wrote, one of each page size. `bench/stock_headers.py` made them.
+use wal_frames::{Front, LogHeader, Sum, read_log_header, write_log_header};
+
+/// The headers of logs, each with the page size that sqlite3 was told.
+const LOGS: [(u32, [u8; 32]); 8] = [
+    (
+        512,
+        *b"\x37\x7f\x06\x82\x00\x2d\xe2\x18\x00\x00\x02\x00\x00\x00\x00\x00\x50\x35\xff\x56\x03\x87\xab\x1a\x2b\xca\x38\x63\xfe\x4f\x97\x0b",
+    ),
+    (
+        1024,
+        *b"\x37\x7f\x06\x82\x00\x2d\xe2\x18\x00\x00\x04\x00\x00\x00\x00\x00\x9c\xf6\xbe\xe3\x25\xec\xa1\xd1\xb8\x8d\xf9\xaf\x42\x0b\xbd\x79",
+    ),
+    (
+        2048,
+        *b"\x37\x7f\x06\x82\x00\x2d\xe2\x18\x00\x00\x08\x00\x00\x00\x00\x00\xe7\x3f\x88\x83\xc3\x91\x81\x07\x58\x5f\x42\xfa\x17\xc0\xac\x62",
+    ),
+    (
+        4096,
+        *b"\x37\x7f\x06\x82\x00\x2d\xe2\x18\x00\x00\x10\x00\x00\x00\x00\x00\x13\x27\xad\x6c\xac\x71\x2f\x4d\x41\x94\x2a\x26\x46\xab\x73\x77",
+    ),
+    (
+        8192,
+        *b"\x37\x7f\x06\x82\x00\x2d\xe2\x18\x00\x00\x20\x00\x00\x00\x00\x00\x45\x89\x5a\x4f\x46\x36\x60\x1e\x24\x61\x8c\x58\xfa\xb9\x9a\x43",
+    ),
+    (
+        16384,
+        *b"\x37\x7f\x06\x82\x00\x2d\xe2\x18\x00\x00\x40\x00\x00\x00\x00\x00\x72\x6f\xfc\x1c\x70\x5b\xe7\x5e\xf2\x43\x72\x85\x09\x42\xa5\x9a",
+    ),
+    (
+        32768,
+        *b"\x37\x7f\x06\x82\x00\x2d\xe2\x18\x00\x00\x80\x00\x00\x00\x00\x00\x9f\xe6\xf0\x2d\x51\x4f\x6e\xf9\x03\xb7\xe9\xb2\xb5\x7e\x10\xa8",
+    ),
+    (
+        65536,
+        *b"\x37\x7f\x06\x82\x00\x2d\xe2\x18\x00\x01\x00\x00\x00\x00\x00\x00\xcb\x04\x4e\xa1\x72\x08\xf5\x5b\x76\x15\x09\xde\x89\xe1\xea\xf5",
+    ),
+];
+
+#[test]
+fn headers_of_logs_of_each_page_size_are_summed_as_sqlite_did(rt: HostRuntime) {
+    for (page_size, bytes) in &LOGS {
+        let foreign = Front::Foreign {
+            version: 3007000,
+            at: 4,
+        };
+        assert_eq!(rt; read_log_header(bytes, 1), foreign);
+        let header = LogHeader {
+            big: false,
+            page_size: *page_size,
+            generation: 1,
+            salt1: 0,
+            salt2: 0,
+            sum: Sum { s0: 0, s1: 0 },
+        };
+        let written = write_log_header(&header);
+        assert_eq!(rt; written[..4], bytes[..4]);
+        assert_eq!(rt; written[8..12], bytes[8..12]);
+        match read_log_header(&written, 1) {
+            Front::Ours(read) => assert_eq!(rt; read.page_size, *page_size),
+            other => assert!(rt; false, "the header isn't ours"),
+        }
+    }
+}
