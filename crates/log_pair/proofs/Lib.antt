@@ -1,0 +1,4 @@
+mod FrameLaid
+mod Reading
+mod Standing
+mod Written

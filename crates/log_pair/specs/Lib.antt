@@ -1,0 +1,4 @@
+pub mod Pair
+pub mod Appending
+pub mod Fields
+pub mod Frame
