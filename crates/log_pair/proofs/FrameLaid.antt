@@ -1,28 +1,15 @@
 -- A frame as it is laid, field by field.
-use Rattle.std.proofs.Common.{◌≡◌, ℕ, ◌+◌, ◌-◌, ◌<◌, ◌%◌, ◌==◌, Bool, true, false, List, ◌++◌, length, take, drop, refl, sym, ◌∙◌, ap, arith, if◌then◌else◌}
-use Rattle.std.proofs.lemmas.Bool.Decides.{nat_tests}
+use Rattle.std.proofs.Common.{◌≡◌, ℕ, ◌+◌, ◌-◌, ◌<◌, List, ◌++◌, length, take, drop, refl, sym, ◌∙◌, ap, arith}
 use Rattle.std.proofs.lemmas.List.{length-take-le, length-drop, length-append, drop_at, append-nil, drop_all}
 use borrow.Rule.Slice.PartMut.{put_mid, post_of}
 use Rattle.page_spec.specs.Bytes.{u32_at, DiffersOnlyWithin}
-use Rattle.page_spec.specs.Header.{is_page_size}
 use Rattle.page_spec.proofs.BytesLaws.{u32_at-below, take-below, drop-above, differs-trans}
 use Rattle.log_spec.specs.Checksum.{Sum as Words, checksum}
-use Rattle.log_spec.specs.LogHeader.{is_big, big_magic, little_magic}
 use Rattle.log_spec.specs.Accept.{sum_after}
 use Rattle.wal_frames.specs.Front.{fields_for}
+use Rattle.wal_frames.proofs.FrameParts.{big_told}
 use Rattle.wal_frames.specs.declared.header.LogHeader.{LogHeader}
 use Rattle.log_spec.specs.Written.{IsFrameOf}
-
-pub page_size_whole : (size : ℕ) → is_page_size size ≡ true → size % 8 ≡ 0
-unfolding is_page_size
-page_size_whole size h = grind (arith, nat_tests)
-
-big_told : (header : LogHeader) → is_big (fields_for header) ≡ header.big
-big_told header = by (header.big)
-  where
-    by : (big : Bool) → ((if big then big_magic else little_magic) == big_magic) ≡ big
-    by true = refl
-    by false = refl
 
 -- the states of a frame's bytes: with its page, with a page number, a size and two salts, and with the checksum
 module _ (header : LogHeader) (sum : Words) (page size : ℕ) (bytes start paged one two three four five new : List ℕ) (middle after : Words)

@@ -1,4 +1,6 @@
 mod FrameLaid
+pub mod GoingOver
+mod NewHeaders
 mod Reading
-mod Standing
+pub mod Standing
 mod Written

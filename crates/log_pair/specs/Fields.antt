@@ -7,8 +7,8 @@ use Rattle.log_pair.specs.declared.pair.LogPair.TheInside.{Inside}
 abbrev pub log_view : Log → LogView
 log_view log = record { header = fields_for log.header; frames = log.frames }
 
-abbrev pub view_of : Inside → PairView
-view_of pair = record {
+abbrev pub pair_view : Inside → PairView
+pair_view pair = record {
   current = pair.current;
   one = log_view pair.one;
   two = log_view pair.two;

@@ -26,31 +26,31 @@ pub record PairView : Type 0 where
   pub sum : Sum
 
 -- log 1 or log 2
-abbrev pub log_in : PairView → ℕ → LogView
-log_in pair log = if log == 1 then pair.one else pair.two
+abbrev pub log_of : PairView → ℕ → LogView
+log_of pair log = if log == 1 then pair.one else pair.two
 
 -- the number of the other log
-abbrev pub other_log : ℕ → ℕ
-other_log log = if log == 1 then 2 else 1
+abbrev pub other_number : ℕ → ℕ
+other_number log = if log == 1 then 2 else 1
 
 -- the file of the current log, and its header
-abbrev pub file_of : PairView → File
-file_of pair = log_file pair.current
+abbrev pub current_file : PairView → File
+current_file pair = log_file pair.current
 
-abbrev pub header_of : PairView → LogFields
-header_of pair = (log_in pair pair.current).header
+abbrev pub current_header : PairView → LogFields
+current_header pair = (log_of pair pair.current).header
 
 -- how many frames were written to the current log, those that were appended since it was sealed included
-abbrev pub count_of : PairView → ℕ
-count_of pair = (log_in pair pair.current).frames + pair.appended
+abbrev pub written_frames : PairView → ℕ
+written_frames pair = (log_of pair pair.current).frames + pair.appended
 
 -- the place in the current log where the next frame goes
 abbrev pub next_place : PairView → ℕ
-next_place pair = frame_place (header_of pair) (count_of pair)
+next_place pair = frame_place (current_header pair) (written_frames pair)
 
 -- a frame as the next piece of the current log
 abbrev pub next_piece : PairView → Frame → Piece
-next_piece pair frame = record { file = file_of pair; at = next_place pair; bytes = frame }
+next_piece pair frame = record { file = current_file pair; at = next_place pair; bytes = frame }
 
 -- a log whose header is legal there
 pub record IsLegalLog (log : ℕ) (view : LogView) : Type 0 where
@@ -63,7 +63,7 @@ pub record IsPair (pair : PairView) : Type 0 where
   pub one : IsLegalLog 1 pair.one
   pub two : IsLegalLog 2 pair.two
   pub same_size : pair.two.header.page_size ≡ pair.one.header.page_size
-  pub counted : count_of pair < 2 ^ 32
+  pub counted : written_frames pair < 2 ^ 32
 
 -- a log with this header and no frames
 abbrev pub new_log : LogHeader → LogView
@@ -84,17 +84,17 @@ abbrev pub with_log : PairView → ℕ → LogView → PairView
 with_log pair log view = record pair { one = if log == 1 then view else pair.one; two = if log == 1 then pair.two else view }
 
 -- a pair to which a frame was appended
-abbrev pub one_more : PairView → Frame → PairView
-one_more pair frame = record pair { appended = pair.appended + 1; sum = sum_after (header_of pair) pair.sum frame }
+abbrev pub with_frame : PairView → Frame → PairView
+with_frame pair frame = record pair { appended = pair.appended + 1; sum = sum_after (current_header pair) pair.sum frame }
 
 -- a pair whose appended frames are frames of the current log
 abbrev pub sealed_pair : PairView → PairView
-sealed_pair pair = record (with_log pair pair.current (record { header = header_of pair; frames = count_of pair })) { appended = 0 }
+sealed_pair pair = record (with_log pair pair.current (record { header = current_header pair; frames = written_frames pair })) { appended = 0 }
 
 -- a pair whose other log is current, with this header and no frames
 abbrev pub switched_pair : PairView → LogFields → PairView
 switched_pair pair header =
-    record (with_log pair (other_log pair.current) (record { header = header; frames = 0 })) {
-      current = other_log pair.current;
+    record (with_log pair (other_number pair.current) (record { header = header; frames = 0 })) {
+      current = other_number pair.current;
       sum = header.sum;
     }

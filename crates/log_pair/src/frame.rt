@@ -13,7 +13,7 @@ ghost use Rattle.disk_face.specs.Told.{IsInside};
 ghost use Rattle.page_spec.specs.Header.{is_page_size};
 ghost use Rattle.log_spec.specs.Accept.{Frame, sum_after};
 ghost use Rattle.wal_frames.specs.Front.{words_of, fields_for};
-ghost use Rattle.log_pair.specs.Frame.{IsOf, IsWritten};
+ghost use Rattle.log_pair.specs.Frame.{IsOf, WritesFrame};
 
 use be_fields::put_u32;
 use disk_face::{Disk, Failed, File};
@@ -84,7 +84,7 @@ impl NewFrame {
         requires bytes { length bytes.now ≡ self.now.header.page_size }
         requires room { 24 + self.now.header.page_size ≤ length room.old }
         requires reached { IsInside (D.told disk.old) self.now.file self.now.at 0 }
-        ensures written { (frame : Frame) × IsWritten self.now bytes.now result (D.told disk.old) (D.told disk.new) frame }
+        ensures written { (frame : Frame) × WritesFrame self.now bytes.now result (D.told disk.old) (D.told disk.new) frame }
         ensures stays { OnlyWrites D.DiskTells disk.old disk.new }
         ensures faults { Counts (is_ok result) (D.faults disk.old) (D.faults disk.new) }
     {
@@ -105,7 +105,7 @@ impl NewFrame {
         requires page { 0 < self.now.page }
         requires bytes { length bytes.now ≡ self.now.header.page_size }
         requires reached { IsInside (D.told disk.old) self.now.file self.now.at 0 }
-        ensures written { (frame : Frame) × IsWritten self.now bytes.now result (D.told disk.old) (D.told disk.new) frame }
+        ensures written { (frame : Frame) × WritesFrame self.now bytes.now result (D.told disk.old) (D.told disk.new) frame }
         ensures stays { OnlyWrites D.DiskTells disk.old disk.new }
         ensures faults { Counts (is_ok result) (D.faults disk.old) (D.faults disk.new) }
     {
@@ -120,7 +120,7 @@ impl NewFrame {
         requires page { 0 < self.now.page }
         requires bytes { length bytes.now ≡ self.now.header.page_size }
         requires reached { IsInside (D.told disk.old) self.now.file self.now.at 0 }
-        ensures written { (frame : Frame) × IsWritten self.now bytes.now result (D.told disk.old) (D.told disk.new) frame }
+        ensures written { (frame : Frame) × WritesFrame self.now bytes.now result (D.told disk.old) (D.told disk.new) frame }
         ensures stays { OnlyWrites D.DiskTells disk.old disk.new }
         ensures faults { Counts (is_ok result) (D.faults disk.old) (D.faults disk.new) }
     {
@@ -128,14 +128,14 @@ impl NewFrame {
         self.write_from(disk, bytes, &mut room)
     }
 
-    /// Writes the frame with the bytes of its page, by one call, and says the checksum behind it.
+    /// WritesPiece the frame with the bytes of its page, by one call, and says the checksum behind it.
     pub(crate) fn write<D: Disk>(&self, disk: &mut D, bytes: &[u8]) -> Result<Sum, Failed>
         requires attached { D.attached disk.old ≡ true }
         requires legal { IsTrue (is_page_size self.now.header.page_size) }
         requires page { 0 < self.now.page }
         requires bytes { length bytes.now ≡ self.now.header.page_size }
         requires reached { IsInside (D.told disk.old) self.now.file self.now.at 0 }
-        ensures written { (frame : Frame) × IsWritten self.now bytes.now result (D.told disk.old) (D.told disk.new) frame }
+        ensures written { (frame : Frame) × WritesFrame self.now bytes.now result (D.told disk.old) (D.told disk.new) frame }
         ensures stays { OnlyWrites D.DiskTells disk.old disk.new }
         ensures faults { Counts (is_ok result) (D.faults disk.old) (D.faults disk.new) }
     {

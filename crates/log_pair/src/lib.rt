@@ -5,6 +5,7 @@
 #![tactic(auto)]
 
 mod frame;
+mod header;
 mod pair;
 
 pub use pair::LogPair;

@@ -1,6 +1,7 @@
 use Rattle.std.proofs.Common.{◌-◌, ap, arith, length, List, ℕ}
 use borrow.Rule.Slice.PartMut.{put_mid}
-use Rattle.log_pair.proofs.FrameLaid.{page_size_whole, laid, laid_sum}
+use Rattle.wal_frames.proofs.FrameParts.{page_size_whole}
+use Rattle.log_pair.proofs.FrameLaid.{laid, laid_sum}
 use Rattle.log_pair.proofs.frame.NewFrame.lay.Goals as goal
 
 pub sum_step-after-requires : goal.sum_step-after-requires

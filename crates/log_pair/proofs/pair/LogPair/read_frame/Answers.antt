@@ -7,7 +7,7 @@ use Rattle.wal_frames.specs.Found.{log_file}
 use Rattle.log_spec.specs.Accept.{Frame}
 use Rattle.log_spec.specs.Frames.{frame_place}
 use Rattle.log_spec.specs.LogHeader.{LogFields}
-use Rattle.log_pair.specs.Pair.{log_in}
+use Rattle.log_pair.specs.Pair.{log_of}
 use Rattle.log_pair.specs.Appending.{HasFrames, IsPageOf}
 use Rattle.log_pair.proofs.Reading.{page_is_read}
 use Rattle.log_pair.proofs.pair.LogPair.read_frame.Goals as goal
@@ -19,5 +19,5 @@ by_answer (Err fault) told log header frames number bytes has long read = tt
 
 pub returns-clause-page : goal.returns-clause-page
 returns-clause-page g c frames within has =
-    by_answer c.read_at.result (g.D.DiskTells.told c.args.disk.now) (log_file c.args.log) (log_in c.args.self.now c.args.log).header frames c.args.frame c.read_at.new.buf has
+    by_answer c.read_at.result (g.D.DiskTells.told c.args.disk.now) (log_file c.args.log) (log_of c.args.self.now c.args.log).header frames c.args.frame c.read_at.new.buf has
     (c.read_at.auto.buf ∙ c.requires.room) (search rules)
