@@ -1,3 +1,4 @@
+pub mod AsRead
 mod FrameLaid
 pub mod GoingOver
 mod NewHeaders

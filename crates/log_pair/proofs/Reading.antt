@@ -14,7 +14,7 @@ use Rattle.log_spec.specs.Frames.{frame_place, frame_size}
 use Rattle.log_pair.specs.Appending.{HasFrames, IsPageOf}
 
 -- a row that begins with two lists, one behind the other
-front_of_row : (first rest row : List ℕ) → take (length (first ++ rest)) row ≡ first ++ rest → take (length first) row ≡ first
+pub front_of_row : (first rest row : List ℕ) → take (length (first ++ rest)) row ≡ first ++ rest → take (length first) row ≡ first
 front_of_row first rest row is =
     sym (take-take (length first) (length (first ++ rest)) row (omega (arith, length-append first rest)))
     ∙ ap (λ (xs : List ℕ). take (length first) xs) is ∙ take_at first rest (length first) refl
