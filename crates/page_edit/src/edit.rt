@@ -107,20 +107,29 @@ fn free_bytes(form: Form, bytes: &[u8]) -> usize
     free
 }
 
-// Packs the page where its gap is smaller than what is needed.
-fn make_gap(form: Form, bytes: &mut [u8], need: usize)
+// Packs the page where its gap is smaller than what is needed, if the free bytes suffice; Err tells how many are free.
+//
+// A page whose gap has room is asked for nothing else: the walk over its cells is left to the others.
+fn make_gap(form: Form, bytes: &mut [u8], need: usize) -> Result<(), usize>
     requires shown { (texts : List (List ℕ)) × HasTexts form bytes.old texts }
-    requires room { (texts : List (List ℕ)) → HasTexts form bytes.old texts → need ≤ free_in form texts }
-    requires most { need ≤ 65536 }
     ensures shows { (texts : List (List ℕ)) → HasTexts form bytes.old texts → HasTexts form bytes.new texts }
-    ensures gap { form.pointers + 2 * u16_at bytes.new (form.at + 3) + need ≤ content_start bytes.new form.at }
+    ensures gap { OnOk result (form.pointers + 2 * u16_at bytes.new (form.at + 3) + need ≤ content_start bytes.new form.at) }
+    ensures room { OnOk result ((texts : List (List ℕ)) → HasTexts form bytes.old texts → need ≤ free_in form texts) }
+    ensures refused { IfErr result (λ free. (free < need) × ((texts : List (List ℕ)) → HasTexts form bytes.old texts → free ≡ free_in form texts)) }
+    ensures same { OnErr result (bytes.new ≡ bytes.old) }
     ensures count { u16_at bytes.new (form.at + 3) ≡ u16_at bytes.old (form.at + 3) }
     ensures rest { KeepsRest form bytes.old bytes.new }
 {
     let top = form.pointers + 2 * usize::from(get_u16(bytes, form.at + 3));
-    if content_start(bytes, form.at) < top + need {
-        pack_cells(form, bytes);
+    if need <= content_start(bytes, form.at) - top {
+        return Ok(());
     }
+    let free = free_bytes(form, bytes);
+    if free < need {
+        return Err(free);
+    }
+    pack_cells(form, bytes);
+    Ok(())
 }
 
 // Puts a cell of at least 4 bytes in.
@@ -137,11 +146,9 @@ fn put_whole(form: Form, bytes: &mut [u8], k: usize, cell: &[u8]) -> Result<(), 
     ensures rest { KeepsRest form bytes.old bytes.new }
 {
     let need = cell.len() + 2;
-    let free = free_bytes(form, bytes);
-    if free < need {
+    if let Err(free) = make_gap(form, bytes, need) {
         return Err(NoRoom { need, free });
     }
-    make_gap(form, bytes, need);
     put_in_gap(form, bytes, k, cell);
     Ok(())
 }

@@ -1,6 +1,6 @@
 -- What a transaction's pages hold once one was read through to the engine.
-use Rattle.std.proofs.Common.{◌≡◌, ◌∙◌, ℕ, List, length, Option, Some, None, IsSome, Result, Ok, Err, true, refl, sym, subst, ap}
-use Rattle.std.specs.Prelude.{Contains, All, IfSome, slice_get}
+use Rattle.std.proofs.Common.{◌≡◌, ◌∙◌, ℕ, List, length, Option, Some, None, IsSome, Result, Ok, refl, sym, subst, ap}
+use Rattle.std.specs.Prelude.{All, IfSome, slice_get}
 use Rattle.page_spec.specs.PageMap.{PageMap, page_at}
 use Rattle.page_spec.specs.View.{View}
 use Rattle.engine_spec.specs.declared.pins.Pin.{Pin}

@@ -1,2 +1,9 @@
 mod Shelves
 mod Fetched
+mod OwnNumbers
+mod Became
+mod SharedCommits
+mod SharedPins
+mod SharedMoves
+mod SharedCalls
+mod Answering

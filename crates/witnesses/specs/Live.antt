@@ -1,5 +1,5 @@
 -- A transaction's pages over the engine in memory.
-use Rattle.std.specs.Prelude.{◌≡◌, ℕ, ◌<◌, ◌==◌, ◌||◌, Bool, List, ◌∷◌, length, Contains, All, Option, Some, None, IfSome, is_some, unwrap_or, slice_get}
+use Rattle.std.specs.Prelude.{◌≡◌, ℕ, List, ◌∷◌, length, Contains, All, Option, None, IfSome, unwrap_or}
 use Rattle.std.specs.List.{slice_index_or}
 use Rattle.page_spec.specs.PageMap.{PageMap, page_at}
 use Rattle.page_spec.specs.View.{View}

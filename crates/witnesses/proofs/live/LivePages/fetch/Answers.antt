@@ -1,5 +1,5 @@
-use Rattle.std.proofs.Common.{◌≡◌, ◌∙◌, ℕ, List, Option, Some, None, Result, Ok, refl, sym, subst, ap, arith}
-use Rattle.std.specs.Prelude.{slice_get, is_some, if◌then◌else◌, IfSome, OnOk}
+use Rattle.std.proofs.Common.{◌≡◌, ◌∙◌, ℕ, List, Option, None, Result, refl, sym, subst, ap, arith}
+use Rattle.std.specs.Prelude.{slice_get, IfSome, OnOk}
 use Rattle.page_spec.specs.PageMap.{PageMap, page_at}
 use Rattle.engine_spec.specs.declared.pins.Pin.{Pin}
 use Rattle.engine_spec.specs.declared.commits.FetchFault.{FetchFault}
