@@ -14,7 +14,7 @@ pub page_size_whole : (size : ℕ) → is_page_size size ≡ true → size % 8 �
 unfolding is_page_size
 page_size_whole size h = grind (arith, nat_tests)
 
-big_told : (header : LogHeader) → is_big (fields_for header) ≡ header.big
+pub big_told : (header : LogHeader) → is_big (fields_for header) ≡ header.big
 big_told header = by (header.big)
   where
     by : (big : Bool) → ((if big then big_magic else little_magic) == big_magic) ≡ big

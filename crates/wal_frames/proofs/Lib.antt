@@ -1,4 +1,4 @@
-mod FrameParts
+pub mod FrameParts
 mod Fronts
 mod Kept
 mod Knows
