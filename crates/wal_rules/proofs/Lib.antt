@@ -1,0 +1,5 @@
+mod Places
+mod Held
+mod Conflicts
+mod Search
+mod Tests
