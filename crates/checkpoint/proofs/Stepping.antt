@@ -19,7 +19,7 @@ use Rattle.log_pair.specs.Pair.{PairView}
 use Rattle.wal_rules.specs.declared.state.LogState.{LogState}
 use Rattle.wal_rules.specs.Rules.{logs_with, MayCopy}
 use Rattle.wal_rules.specs.Indexing.{IsIndexOf}
-use Rattle.checkpoint.specs.Steps.{other_pages, held_by, DoesStep}
+use Rattle.checkpoint.specs.Steps.{pages_behind, readers_behind, DoesStep}
 
 -- a frame that is there lies in the log's file
 pub frame_inside : (told : Option History) (log : File) (header : LogFields) (count frame : ℕ) → 1 ≤ frame → frame ≤ count
@@ -64,13 +64,13 @@ some_logs = record { current = 1; generation = 1; since = 0; other_since = 0; do
 
 -- nobody holds what a copy would change
 pub none_holds : (state : LogState) (readers : Readers) (result : Result Unit ℕ) (done : Unit {0}) → result ≡ Ok done
-    → ((rest : TwoLogs) → MayCopy (holders (logs_with state rest) readers) result) → held_by state readers ≡ 0
+    → ((rest : TwoLogs) → MayCopy (holders (logs_with state rest) readers) result) → readers_behind state readers ≡ 0
 none_holds state readers result done is may =
     subst (λ (r : Result Unit ℕ). MayCopy (holders (logs_with state some_logs) readers) r) is (may some_logs)
 
 -- so many do
 pub some_hold : (state : LogState) (readers : Readers) (result : Result Unit ℕ) (count : ℕ) → result ≡ Err count
-    → ((rest : TwoLogs) → MayCopy (holders (logs_with state rest) readers) result) → (count ≡ held_by state readers) × (0 < count)
+    → ((rest : TwoLogs) → MayCopy (holders (logs_with state rest) readers) result) → (count ≡ readers_behind state readers) × (0 < count)
 some_hold state readers result count is may =
     subst (λ (r : Result Unit ℕ). MayCopy (holders (logs_with state some_logs) readers) r) is (may some_logs)
 
@@ -90,7 +90,7 @@ of_ok (Err why) P Q more is = tt
 
 -- all pages were copied, and the database was synced
 pub finishes : (pair : PairView) (pages : List ℕ) (state : LogState) (readers : Readers) (bytes : List ℕ) (old told : Option History) (new : LogState)
-    → state.done ≡ false → held_by state readers ≡ 0 → ((page : ℕ) → Contains pages page → page ≤ state.copied) → (answer : Ckpt)
+    → state.done ≡ false → readers_behind state readers ≡ 0 → ((page : ℕ) → Contains pages page → page ≤ state.copied) → (answer : Ckpt)
     → (answer ≡ Finished) × (new ≡ record state { done = true }) × (told ≡ after (Synced Main) old)
     → DoesStep pair pages state readers answer new bytes old told
 finishes pair pages state readers bytes old told new pending free left answer (is, same, synced) =
@@ -99,7 +99,7 @@ finishes pair pages state readers bytes old told new pending free left answer (i
 -- A step by the index is one of the two logs, whatever history the index holds.
 pub is_step : (pair : PairView) (index : Indexed) (state : LogState) (readers : Readers) (rest : TwoLogs) (history : List Commit) (bytes : List ℕ)
     (old told : Option History) (new : LogState) → IsIndexOf index (logs_with state rest) history → (answer : Ckpt)
-    → DoesStep pair (other_pages index state) state readers answer new bytes old told
+    → DoesStep pair (pages_behind index state) state readers answer new bytes old told
     → Steps (logs_with state rest) readers history answer (logs_with new rest)
 is_step pair index state readers rest history bytes old told new is Idle does = (does.0, ap (λ (s : LogState). logs_with s rest) does.1)
 is_step pair index state readers rest history bytes old told new is (Held count) does =

@@ -18,20 +18,20 @@ use Rattle.log_pair.specs.Pair.{PairView, LogView, log_of}
 use Rattle.log_pair.specs.Appending.{HasFrames, IsPageOf}
 
 -- the number of the log that isn't current
-abbrev pub other_number : LogState → ℕ
-other_number state = 3 - state.current
+abbrev pub log_behind : LogState → ℕ
+log_behind state = 3 - state.current
 
 -- the pages of its frames, by the index
-abbrev pub other_pages : Indexed → LogState → List ℕ
-other_pages index state = (log_in index (other_number state)).pages
+abbrev pub pages_behind : Indexed → LogState → List ℕ
+pages_behind index state = (log_in index (log_behind state)).pages
 
 -- and what the pair has of it
-abbrev pub other_view : PairView → LogState → LogView
-other_view pair state = log_of pair (other_number state)
+abbrev pub view_behind : PairView → LogState → LogView
+view_behind pair state = log_of pair (log_behind state)
 
 -- how many readers hold what a copy would change: a front of that log over the database
-abbrev pub held_by : LogState → Readers → ℕ
-held_by state readers = if state.current == 1 then readers.part2 else readers.part1
+abbrev pub readers_behind : LogState → Readers → ℕ
+readers_behind state readers = if state.current == 1 then readers.part2 else readers.part1
 
 -- bytes for a page of the database, where pages have this size
 abbrev pub page_piece : ℕ → ℕ → List ℕ → Piece
@@ -55,12 +55,12 @@ pub record CopiesPage (log : ℕ) (view : LogView) (pages : List ℕ) (page : �
 abbrev pub DoesStep : PairView → List ℕ → LogState → Readers → Ckpt → LogState → List ℕ → Option History → Option History → Type 0
 DoesStep pair pages state readers Idle new bytes old told = (state.done ≡ true) × (new ≡ state) × (told ≡ old)
 DoesStep pair pages state readers (Held count) new bytes old told =
-    (state.done ≡ false) × (count ≡ held_by state readers) × (0 < count) × (new ≡ state) × (told ≡ old)
+    (state.done ≡ false) × (count ≡ readers_behind state readers) × (0 < count) × (new ≡ state) × (told ≡ old)
 DoesStep pair pages state readers (Copied page) new bytes old told =
-    (state.done ≡ false) × (held_by state readers ≡ 0) × IsNextPage pages state.copied page × (new ≡ record state { copied = page })
-    × CopiesPage (other_number state) (other_view pair state) pages page bytes old told
+    (state.done ≡ false) × (readers_behind state readers ≡ 0) × IsNextPage pages state.copied page × (new ≡ record state { copied = page })
+    × CopiesPage (log_behind state) (view_behind pair state) pages page bytes old told
 DoesStep pair pages state readers Finished new bytes old told =
-    (state.done ≡ false) × (held_by state readers ≡ 0) × ((page : ℕ) → Contains pages page → page ≤ state.copied)
+    (state.done ≡ false) × (readers_behind state readers ≡ 0) × ((page : ℕ) → Contains pages page → page ≤ state.copied)
     × (new ≡ record state { done = true }) × (told ≡ after (Synced Main) old)
 
 -- What a step that failed may have left: all as it was, or the next page of the database with a write that was refused.

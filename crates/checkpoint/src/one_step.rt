@@ -20,7 +20,7 @@ ghost use Rattle.wal_index.specs.Frames.{IsNextPage};
 ghost use Rattle.log_pair.specs.Pair.{log_of};
 ghost use Rattle.wal_rules.specs.Rules.{logs_with};
 ghost use Rattle.wal_rules.specs.Indexing.{IsIndexOf};
-ghost use Rattle.checkpoint.specs.Steps.{other_number, other_pages, other_view, held_by, DoesStep, FailsIn};
+ghost use Rattle.checkpoint.specs.Steps.{log_behind, pages_behind, view_behind, readers_behind, DoesStep, FailsIn};
 
 use crate::copy::{copy_page, sync_main};
 use disk_face::{Disk, Failed};
@@ -45,20 +45,20 @@ pub fn step<D: Disk>(
 ) -> Result<Ckpt, Failed>
     requires attached { D.attached disk.old ≡ true }
     requires which { (state.old.current ≡ 1) ⊎ (state.old.current ≡ 2) }
-    requires frames { length (other_pages index.now state.old) ≡ (other_view pair.now state.old).frames }
-    requires pages { All (λ page. 0 < page) (other_pages index.now state.old) }
-    requires room { length buf.old ≡ (other_view pair.now state.old).header.page_size }
-    requires inside { IsInside (D.told disk.old) (log_file (other_number state.old)) (frame_place (other_view pair.now state.old).header (other_view pair.now state.old).frames) 0 }
-    requires reached { (page : ℕ) → IsNextPage (other_pages index.now state.old) state.old.copied page
+    requires frames { length (pages_behind index.now state.old) ≡ (view_behind pair.now state.old).frames }
+    requires pages { All (λ page. 0 < page) (pages_behind index.now state.old) }
+    requires room { length buf.old ≡ (view_behind pair.now state.old).header.page_size }
+    requires inside { IsInside (D.told disk.old) (log_file (log_behind state.old)) (frame_place (view_behind pair.now state.old).header (view_behind pair.now state.old).frames) 0 }
+    requires reached { (page : ℕ) → IsNextPage (pages_behind index.now state.old) state.old.copied page
         → IsInside (D.told disk.old) Main ((page - 1) * length buf.old) 0 }
-    ensures does { IfOk result (λ answer. DoesStep pair.now (other_pages index.now state.old) state.old readers.now answer state.new buf.new
+    ensures does { IfOk result (λ answer. DoesStep pair.now (pages_behind index.now state.old) state.old readers.now answer state.new buf.new
         (D.told disk.old) (D.told disk.new)) }
     ensures refused { OnErr result (state.new ≡ state.old) }
-    ensures fails { OnErr result (FailsIn (other_pages index.now state.old) state.old (length buf.old) (D.told disk.old) (D.told disk.new)) }
+    ensures fails { OnErr result (FailsIn (pages_behind index.now state.old) state.old (length buf.old) (D.told disk.old) (D.told disk.new)) }
     ensures logs { (rest : TwoLogs) (history : List Commit) → IsIndexOf index.now (logs_with state.old rest) history
         → IfOk result (λ answer. Steps (logs_with state.old rest) readers.now history answer (logs_with state.new rest)) }
     ensures moments { (opening : Opening) (view : StoreView) → Since opening.start (Holds opening view) (D.told disk.old) → view.size ≡ length buf.old
-        → page_numbers view.other ≡ other_pages index.now state.old → KeepsStore opening view (D.told disk.old) (D.told disk.new) }
+        → page_numbers view.other ≡ pages_behind index.now state.old → KeepsStore opening view (D.told disk.old) (D.told disk.new) }
     ensures size { length buf.new ≡ length buf.old }
     ensures stays { OnlyWrites D.DiskTells disk.old disk.new }
     ensures faults { Counts (is_ok result) (D.faults disk.old) (D.faults disk.new) }
@@ -87,19 +87,19 @@ fn copy_next<D: Disk>(
     requires attached { D.attached disk.old ≡ true }
     requires which { (state.old.current ≡ 1) ⊎ (state.old.current ≡ 2) }
     requires pending { state.old.done ≡ false }
-    requires frames { length (other_pages index.now state.old) ≡ (other_view pair.now state.old).frames }
-    requires pages { All (λ page. 0 < page) (other_pages index.now state.old) }
-    requires room { length buf.old ≡ (other_view pair.now state.old).header.page_size }
-    requires inside { IsInside (D.told disk.old) (log_file (other_number state.old)) (frame_place (other_view pair.now state.old).header (other_view pair.now state.old).frames) 0 }
-    requires next { IsNextPage (other_pages index.now state.old) state.old.copied page }
+    requires frames { length (pages_behind index.now state.old) ≡ (view_behind pair.now state.old).frames }
+    requires pages { All (λ page. 0 < page) (pages_behind index.now state.old) }
+    requires room { length buf.old ≡ (view_behind pair.now state.old).header.page_size }
+    requires inside { IsInside (D.told disk.old) (log_file (log_behind state.old)) (frame_place (view_behind pair.now state.old).header (view_behind pair.now state.old).frames) 0 }
+    requires next { IsNextPage (pages_behind index.now state.old) state.old.copied page }
     requires reached { IsInside (D.told disk.old) Main ((page - 1) * length buf.old) 0 }
-    ensures does { (readers : ReadersValue) → held_by state.old readers ≡ 0
-        → IfOk result (λ answer. DoesStep pair.now (other_pages index.now state.old) state.old readers answer state.new buf.new (D.told disk.old) (D.told disk.new)) }
+    ensures does { (readers : ReadersValue) → readers_behind state.old readers ≡ 0
+        → IfOk result (λ answer. DoesStep pair.now (pages_behind index.now state.old) state.old readers answer state.new buf.new (D.told disk.old) (D.told disk.new)) }
     ensures refused { OnErr result (state.new ≡ state.old) }
-    ensures fails { OnErr result (FailsIn (other_pages index.now state.old) state.old (length buf.old) (D.told disk.old) (D.told disk.new)) }
+    ensures fails { OnErr result (FailsIn (pages_behind index.now state.old) state.old (length buf.old) (D.told disk.old) (D.told disk.new)) }
     ensures copied { IfOk result (λ answer. (answer ≡ ckpt.Copied page) × (state.new ≡ record state.old { copied = page })) }
     ensures moments { (opening : Opening) (view : StoreView) → Since opening.start (Holds opening view) (D.told disk.old) → view.size ≡ length buf.old
-        → page_numbers view.other ≡ other_pages index.now state.old → KeepsStore opening view (D.told disk.old) (D.told disk.new) }
+        → page_numbers view.other ≡ pages_behind index.now state.old → KeepsStore opening view (D.told disk.old) (D.told disk.new) }
     ensures size { length buf.new ≡ length buf.old }
     ensures stays { OnlyWrites D.DiskTells disk.old disk.new }
     ensures faults { Counts (is_ok result) (D.faults disk.old) (D.faults disk.new) }

@@ -1,5 +1,5 @@
 use Rattle.crash_spec.proofs.StoreMoments.{keeps_still}
-use Rattle.checkpoint.specs.Steps.{other_pages}
+use Rattle.checkpoint.specs.Steps.{pages_behind}
 use Rattle.checkpoint.proofs.Stepping.{none_holds, some_hold, none_left, of_ok, finishes, is_step}
 use Rattle.std.proofs.Common.{refl}
 use Rattle.checkpoint.proofs.one_step.step.Goals as goal
@@ -32,20 +32,20 @@ returns-in-Some-clause-logs g c = λ rest history is.
 
 pub returns-in-None-clause-does : goal.returns-in-None-clause-does
 returns-in-None-clause-does g c =
-    of_ok c.finish.result _ _ (finishes c.args.pair.now (other_pages c.args.index.now c.args.state.now) c.args.state.now c.args.readers.now c.args.buf.now
+    of_ok c.finish.result _ _ (finishes c.args.pair.now (pages_behind c.args.index.now c.args.state.now) c.args.state.now c.args.readers.now c.args.buf.now
     (g.D.DiskTells.told c.args.disk.now) (g.D.DiskTells.told c.finish.new.disk) c.finish.new.state c.if-state.false
     (none_holds c.args.state.now c.args.readers.now c.may_copy.result _ c.in_default.is c.may_copy.ensures)
-    (none_left (other_pages c.args.index.now c.args.state.now) c.args.state.now.copied c.next_page.result c.in-None.is c.next_page.ensures))
+    (none_left (pages_behind c.args.index.now c.args.state.now) c.args.state.now.copied c.next_page.result c.in-None.is c.next_page.ensures))
     c.finish.ensures.finished
 
 pub returns-in-None-clause-logs : goal.returns-in-None-clause-logs
 returns-in-None-clause-logs g c = λ rest history is.
     of_ok c.finish.result _ _ (λ answer does. is_step c.args.pair.now c.args.index.now c.args.state.now c.args.readers.now rest history c.args.buf.now
     (g.D.DiskTells.told c.args.disk.now) (g.D.DiskTells.told c.finish.new.disk) c.finish.new.state is answer
-    (finishes c.args.pair.now (other_pages c.args.index.now c.args.state.now) c.args.state.now c.args.readers.now c.args.buf.now
+    (finishes c.args.pair.now (pages_behind c.args.index.now c.args.state.now) c.args.state.now c.args.readers.now c.args.buf.now
     (g.D.DiskTells.told c.args.disk.now) (g.D.DiskTells.told c.finish.new.disk) c.finish.new.state c.if-state.false
     (none_holds c.args.state.now c.args.readers.now c.may_copy.result _ c.in_default.is c.may_copy.ensures)
-    (none_left (other_pages c.args.index.now c.args.state.now) c.args.state.now.copied c.next_page.result c.in-None.is c.next_page.ensures) answer does))
+    (none_left (pages_behind c.args.index.now c.args.state.now) c.args.state.now.copied c.next_page.result c.in-None.is c.next_page.ensures) answer does))
     c.finish.ensures.finished
 
 pub returns-in-None-clause-moments : goal.returns-in-None-clause-moments
