@@ -19,13 +19,13 @@ pub held_inside : {M : Type 0} (shared : Shared M) (pin : Pin) → IsLive Shared
 held_inside shared pin live =
     (pin_of shared.waiting ++ live.0, live.1.plain, Contains-append_right (pin_of shared.waiting) live.0 pin live.2)
 
-pub newest_has_sizes : {M : Type 0} (shared : Shared M) (pins : List Pin) (pages : PageMap) → SharedLive shared pins
+pub shared_newest_sizes : {M : Type 0} (shared : Shared M) (pins : List Pin) (pages : PageMap) → SharedLive shared pins
     → (shared_state shared).newest ≡ Some pages → HasSizes pages (shared_state shared).size (shared_state shared).page_size
-newest_has_sizes shared pins pages live told = plain.newest_has_sizes shared.plain pages live.plain.0 told
+shared_newest_sizes shared pins pages live told = plain.newest_has_sizes shared.plain pages live.plain.0 told
 
-pub pinned_has_sizes : {M : Type 0} (shared : Shared M) (pin : Pin) (pages : PageMap) → IsLive SharedLive shared pin
+pub shared_pinned_sizes : {M : Type 0} (shared : Shared M) (pin : Pin) (pages : PageMap) → IsLive SharedLive shared pin
     → shared_map shared pin ≡ Some pages → HasSizes pages pin.size (shared_state shared).page_size
-pinned_has_sizes shared pin pages live found = plain.pinned_has_sizes shared.plain pin pages (held_inside shared pin live) found
+shared_pinned_sizes shared pin pages live found = plain.pinned_has_sizes shared.plain pin pages (held_inside shared pin live) found
 
 pub shared_tells : {M : Type 0} (shared : Shared M) (pin : Pin) → IsLive SharedLive shared pin → IsSome (shared_state shared).newest
     → IsSome (shared_map shared pin)

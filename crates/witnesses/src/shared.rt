@@ -145,7 +145,7 @@ fn push_reserved(items: &mut Vec<u64>, item: u64)
 
 impl<M: Means> EngineTells<M> for Shared<M> {
     ghost use Rattle.witnesses.specs.Shared.{shared_state, shared_map};
-    ghost use Rattle.witnesses.specs.SharedLaws.{begins_never, newest_has_sizes, pinned_has_sizes, shared_tells, shared_bounds, shared_own, shared_legal, shared_logs, shared_run};
+    ghost use Rattle.witnesses.specs.SharedLaws.{begins_never, shared_newest_sizes, shared_pinned_sizes, shared_tells, shared_bounds, shared_own, shared_legal, shared_logs, shared_run};
 
     ghost state = { shared_state };
 
@@ -161,9 +161,9 @@ impl<M: Means> EngineTells<M> for Shared<M> {
 
     ghost loans = { λ shared. [] };
 
-    ghost newest_sizes = { newest_has_sizes };
+    ghost newest_sizes = { shared_newest_sizes };
 
-    ghost pinned_sizes = { pinned_has_sizes };
+    ghost pinned_sizes = { shared_pinned_sizes };
 
     ghost tells = { shared_tells };
 

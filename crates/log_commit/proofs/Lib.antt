@@ -1,0 +1,4 @@
+mod Growing
+mod Lying
+mod Same
+mod Appending
