@@ -159,6 +159,32 @@ first_of_pages : (page : ℕ → List ℕ) (count : ℕ) → 1 ≤ count → pag
 first_of_pages page zero some = absurd (omega arith)
 first_of_pages page (suc count) some = refl
 
+-- Where no log has a frame, Main is the map.
+pub bare_is_map : (view : OpeningView) (one two : FoundLog) (told : History) → IsOpened view one two told → one.frames ≡ [] → two.frames ≡ []
+    → (((reads told).main ≡ []) ⊎ ((100 ≤ view.size) × (page_size_in (fields_of (take 100 (reads told).main)) ≡ view.size))) × (overlaid (reads told).main [] [] ≡ view.map)
+bare_is_map view one two told s none neither = (
+  elim s.fits [
+    | inl (x, y, empty) ↦ inl empty
+    | inr (big, sized) ↦
+        inr (
+          big,
+          sym (ap (λ (fs : List Frame). named_size main fs (newer_in (reads told) one two)) (either first none neither) ∙ ap (λ (fs : List Frame). named_size main [] fs) (empty_map first main one.frames two.frames none neither).1)
+              ∙ sized,
+        )
+  ],
+  sym (empty_map first main one.frames two.frames none neither).0 ∙ s.is,
+)
+  where
+    main : List ℕ
+    main = (reads told).main
+
+    first : Bool
+    first = nat_lt (log_fields (reads told).log1).generation (log_fields (reads told).log2).generation
+
+    either : (first : Bool) → one.frames ≡ [] → two.frames ≡ [] → (if first then one.frames else two.frames) ≡ []
+    either true x y = x
+    either false x y = y
+
 -- Once all was written, Main is the map, and so it is with the newer log's frames alone.
 pub laid_down : (view : OpeningView) (one two : FoundLog) (told : History) → IsLaidDown view one two (length view.map + 1) told → 1 ≤ length view.map → NamesItsSize view one two
     → AreWritten view one two told × (overlaid (reads told).main [] (newer_in (reads told) one two) ≡ view.map)

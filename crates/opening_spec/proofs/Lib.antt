@@ -9,3 +9,4 @@ pub mod Resetting
 pub mod Ended
 pub mod Founding
 pub mod Beginning
+pub mod Settling
