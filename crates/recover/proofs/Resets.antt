@@ -1,8 +1,10 @@
 -- A log's new header was written and synced, or one of both calls failed.
-use Rattle.std.proofs.Common.{◌≡◌, ◌⊎◌, inl, inr, ℕ, ◌+◌, ◌%◌, ◌^◌, ◌<◌, Bool, true, false, List, Option, refl, sym, ◌∙◌, ap, subst}
+use Rattle.std.proofs.lemmas.Bool.Decides.{nat_tests}
+use Rattle.recover.specs.Headers.{next_even}
+use Rattle.std.proofs.Common.{arith, ◌≤◌, ◌≡◌, ◌⊎◌, inl, inr, ℕ, ◌+◌, ◌%◌, ◌^◌, ◌<◌, Bool, true, false, List, Option, refl, sym, ◌∙◌, ap, subst}
 use Rattle.disk_face.specs.declared.disk.File.{File}
 use Rattle.disk_face.specs.Steps.{History}
-use Rattle.log_spec.specs.LogHeader.{LogFields, log_fields, is_generation, IsOurs}
+use Rattle.log_spec.specs.LogHeader.{LogFields, log_fields, is_generation, last_generation, IsOurs}
 use Rattle.log_spec.specs.Written.{IsHeaderOf}
 use Rattle.crash_spec.specs.Marks.{IsLog, number_of}
 use Rattle.crash_spec.specs.Opening.{Since}
@@ -47,3 +49,12 @@ pub signed_is : (log : ℕ) (made : LogHeader) (new : NewHeader) → new.header 
     → IsHeaderOf log (fields_for new.header) new.bytes
 signed_is log made new is size generation signed =
     signed log (ap (λ (h : LogHeader). is_page_size h.page_size) is ∙ size) (ap (λ (h : LogHeader). is_generation log h.generation) is ∙ generation)
+
+-- the generations of both logs' next headers
+pub next_even_is : (newest : ℕ) → newest + 4 ≤ last_generation → is_generation 2 (next_even newest) ≡ true
+unfolding is_generation
+next_even_is newest room = grind (arith, nat_tests)
+
+pub next_odd_is : (newest : ℕ) → newest + 4 ≤ last_generation → is_generation 1 (next_even newest + 1) ≡ true
+unfolding is_generation
+next_odd_is newest room = grind (arith, nat_tests)
