@@ -9,16 +9,18 @@ use be_fields::get_u32;
 use disk_face::{Disk, Failed, File};
 use wal_frames::{LogHeader, Sum, write_log_header};
 
-/// A header and its bytes.
+/// A header that a log is to begin with, and its bytes.
 #[derive(Drop)]
-pub(crate) struct NewHeader {
-    pub(crate) header: LogHeader,
-    pub(crate) bytes: [u8; 32],
+pub struct NewHeader {
+    /// What the bytes tell, with their own checksum.
+    pub header: LogHeader,
+    /// The bytes.
+    pub bytes: [u8; 32],
 }
 
 impl NewHeader {
     /// The header with its own checksum, in place of the one that it has.
-    pub(crate) fn sign(header: &LogHeader) -> NewHeader
+    pub fn sign(header: &LogHeader) -> NewHeader
         requires { header.now.big ≡ true }
         ensures header { result.header ≡ record header.now { sum = result.header.sum } }
         ensures signed { IsSigned result }
@@ -34,8 +36,9 @@ impl NewHeader {
         }
     }
 
-    /// WritesPiece the header to the front of a log, and has it reach the medium.
-    pub(crate) fn write<D: Disk>(&self, disk: &mut D, log: File) -> Result<(), Failed>
+    /// Writes the header to the front of a log by one write, and has it reach the medium. After `Failed` the front may be torn, or it
+    /// isn't on the medium.
+    pub fn write<D: Disk>(&self, disk: &mut D, log: File) -> Result<(), Failed>
         requires { D.attached disk.old ≡ true }
         ensures steps { WritesAndSyncs (is_ok result) (front_piece log self.now.bytes) (D.told disk.old) (D.told disk.new) }
         ensures stays { OnlyWrites D.DiskTells disk.old disk.new }

@@ -8,4 +8,5 @@ mod frame;
 mod header;
 mod pair;
 
+pub use header::NewHeader;
 pub use pair::LogPair;

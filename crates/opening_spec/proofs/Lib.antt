@@ -1,0 +1,12 @@
+pub mod FoundLaws
+pub mod Synced
+pub mod Syncing
+pub mod Written
+pub mod Writing
+pub mod Laid
+pub mod Reset
+pub mod Resetting
+pub mod Ended
+pub mod Founding
+pub mod Beginning
+pub mod Settling

@@ -1,0 +1,4 @@
+mod Placing
+mod Laying
+mod Resets
+pub mod First

@@ -1,0 +1,11 @@
+//! Makes a database's files ready for a store: what an opening writes.
+//!
+//! Each function makes a few calls on the disk, and one clause says of every moment of it what a crash leaves, since the opening
+//! began, and which state the files are in then.
+#![tactic(auto)]
+
+mod header;
+mod pages;
+mod place;
+mod settle;
+mod sync;

@@ -1,0 +1,61 @@
+// What an opening writes of a database whose versions are this program's, from its first sync to its last.
+ghost use Rattle.std.specs.Prelude.{◌≡◌, ◌+◌, ◌≤◌, ◌<◌, true, false, is_ok, [], length, IfSome};
+ghost use Rattle.disk_face.specs.Faults.{Counts};
+ghost use Rattle.disk_face.specs.Stays.{OnlyWrites};
+ghost use Rattle.disk_face.specs.Steps.{reads};
+ghost use Rattle.log_spec.specs.LogHeader.{log_fields};
+ghost use Rattle.crash_spec.specs.Marks.{IsLog, other_of};
+ghost use Rattle.crash_spec.specs.Opening.{Since};
+ghost use Rattle.crash_spec.specs.Passes.{Passes, WhereDone};
+ghost use Rattle.opening_spec.specs.Found.{FoundLog, OpeningView, IsFirst, IsNextHeader, found_log};
+ghost use Rattle.opening_spec.specs.States.{IsSyncing, IsSettled, LeavesOpening, header1_of, header2_of};
+ghost use Rattle.recover.specs.Places.{FitPlaces, AreSeen};
+
+use crate::header::{NewHeaders, reset_logs};
+use crate::pages::lay_down;
+use crate::place::Place;
+use crate::sync::sync_logs;
+use disk_face::{Disk, Failed};
+
+/// Has the logs reach the medium, writes what they hold to Main, and gives both their new headers.
+///
+/// After `Failed` the files are somewhere on this way: the next opening recovers the same map.
+pub(crate) fn settle_files<D: Disk>(
+    disk: &mut D,
+    places: &[Place],
+    some_frames: bool,
+    headers: &NewHeaders,
+    buf: &mut [u8],
+) -> Result<(), Failed>
+    requires attached { D.attached disk.old ≡ true }
+    requires small { length buf.old ≤ 65536 }
+    requires few { length places.now < 4294967295 }
+    requires fits { IfSome (D.told disk.old) (λ told. FitPlaces (reads told) (length buf.old) places.now) }
+    requires first { IsLog headers.now.first }
+    requires other { headers.now.second ≡ other_of headers.now.first }
+    ensures moments { (view : OpeningView) (one two : FoundLog) → Since view.opening.start (IsSyncing view one two []) (D.told disk.old) → length buf.old ≡ view.size
+        → (some_frames ≡ false → (one.frames ≡ []) × (two.frames ≡ [])) → (some_frames ≡ true → IfSome (D.told disk.old) (λ told. AreSeen view one two places.now (reads told)))
+        → IfSome (D.told disk.old) (λ told. IsFirst (reads told) headers.now.first one two)
+        → IsNextHeader headers.now.first (found_log headers.now.first one two) headers.now.here.bytes
+        → IsNextHeader (other_of headers.now.first) (found_log (other_of headers.now.first) one two) headers.now.there.bytes
+        → Passes view.opening (LeavesOpening view) (WhereDone (is_ok result) (IsSettled view (header1_of headers.now.first (log_fields headers.now.here.bytes) (log_fields headers.now.there.bytes)) (header2_of headers.now.first (log_fields headers.now.here.bytes) (log_fields headers.now.there.bytes)))) (D.told disk.old) (D.told disk.new) }
+    ensures stays { OnlyWrites D.DiskTells disk.old disk.new }
+    ensures faults { Counts (is_ok result) (D.faults disk.old) (D.faults disk.new) }
+{
+    match sync_logs(disk) {
+        Ok(()) => match lay_down(disk, places, some_frames, buf) {
+            Ok(()) => match reset_logs(
+                disk,
+                headers.first,
+                &headers.here,
+                headers.second,
+                &headers.there,
+            ) {
+                Ok(()) => Ok(()),
+                Err(Failed) => Err(Failed),
+            },
+            Err(Failed) => Err(Failed),
+        },
+        Err(Failed) => Err(Failed),
+    }
+}
