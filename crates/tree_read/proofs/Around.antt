@@ -120,8 +120,8 @@ under_place usable last shown IsSub some rowid (cell ∷ cells) right own items 
 under_place usable last shown IsSub some rowid (cell ∷ cells) right own items (suc k) under stands =
     let found = under_place usable last shown IsSub some rowid cells right under.rest_own under.rest k under.others (stands_behind cell cells rowid k stands) in
     let less : Each (λ (item : Item). item.key <ℤ rowid) under.under =
-        weaker (λ (item : Item). item.key ≤ℤ cell.rowid) (λ (item : Item). item.key <ℤ rowid) under.under
-        (λ item most. below_at item.key cell.rowid rowid most (by_place k stands)) under.divided.0 in
+    weaker (λ (item : Item). item.key ≤ℤ cell.rowid) (λ (item : Item). item.key <ℤ rowid) under.under
+    (λ item most. below_at item.key cell.rowid rowid most (by_place k stands)) under.divided.0 in
     record {
       own = found.own;
       some = found.some;
@@ -138,6 +138,14 @@ under_place usable last shown IsSub some rowid (cell ∷ cells) right own items 
         (cell_above usable last shown IsSub some cell.rowid cells right under.rest_own under.rest j under.others under.divided.1 (omega (arith, stands.most)))
         (stands.above (suc j) refl)
 
+-- under a cell something is listed
+under_some : (usable last : ℕ) (shown : Shown) (IsSub : Subs) → ListsSome IsSub → (cells : List NodeCell) (right : ℕ) (own : List ℕ) (items : List Item)
+    → AreUnder true usable last shown IsSub cells right own items → 1 ≤ length cells → 1 ≤ length items
+under_some usable last shown IsSub some [] right own items under many = absurd (omega (arith, many))
+under_some usable last shown IsSub some (cell ∷ cells) right own items under many =
+    subst (λ (l : List Item). 1 ≤ length l) (sym under.items_are)
+    (omega (arith, some cell.left under.under_own under.under under.sub, length-append under.under (under.middle ++ under.rest)))
+
 -- a node with a cell lists something
 pub lists_some : (usable last : ℕ) (shown : Shown) (height : ℕ) (node : Node) (below : List ℕ) (items : List Item) → Content true usable last shown height node below items
     → 1 ≤ length node.cells → 1 ≤ length items
@@ -147,16 +155,8 @@ lists_some usable last shown zero node below items is many = by_cells node.cells
     by_cells [] items are many = absurd (omega (arith, many))
     by_cells (cell ∷ cells) [] never many = absurd never
     by_cells (cell ∷ cells) (item ∷ items) are many = omega arith
-lists_some usable last shown (suc height) node below items is many = by_cells node.cells items below is.under many
-  where
-    some_below : ListsSome (IsChild last shown (Content true usable last shown height))
-    some_below page own items child = elim child.holds.enough [
+lists_some usable last shown (suc height) node below items is many =
+    under_some usable last shown (IsChild last shown (Content true usable last shown height)) (λ page own some child. elim child.holds.enough [
       | inl first ↦ absurd (omega (arith, first, child.least))
-      | inr enough ↦ lists_some usable last shown height child.holds.node child.holds.below items child.holds.content enough
-    ]
-    by_cells : (cells : List NodeCell) (items : List Item) (below : List ℕ)
-        → AreUnder true usable last shown (IsChild last shown (Content true usable last shown height)) cells node.right below items → 1 ≤ length cells → 1 ≤ length items
-    by_cells [] items below under many = absurd (omega (arith, many))
-    by_cells (cell ∷ cells) items below under many =
-        subst (λ (l : List Item). 1 ≤ length l) (sym under.items_are)
-        (omega (arith, some_below cell.left under.under_own under.under under.sub, length-append under.under (under.middle ++ under.rest)))
+      | inr enough ↦ lists_some usable last shown height child.holds.node child.holds.below some child.holds.content enough
+    ]) node.cells node.right below items is.under many

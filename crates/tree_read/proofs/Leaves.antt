@@ -70,8 +70,11 @@ leaf_lacks usable last shown rowid (cell ∷ cells) (item ∷ items) zero are st
       back = item ∷ items;
       items_are = refl;
       less = tt;
-      more = (here, weaker (λ (other : Item). item.key <ℤ other.key) (λ (other : Item). rowid <ℤ other.key) items
-      (λ other above. both_below rowid item.key other.key here above) are.1);
+      more = (
+        here,
+        weaker (λ (other : Item). item.key <ℤ other.key) (λ (other : Item). rowid <ℤ other.key) items
+            (λ other above. both_below rowid item.key other.key here above) are.1,
+      );
     }
 leaf_lacks usable last shown rowid (cell ∷ cells) (item ∷ items) (suc k) are stands less =
     around_behind rowid (item ∷ []) items [] (first_below usable last shown rowid cell cells item items k are stands, tt)
