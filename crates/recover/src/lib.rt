@@ -7,5 +7,10 @@
 mod header;
 mod pages;
 mod place;
+mod seen;
 mod settle;
+mod setup;
 mod sync;
+
+pub use seen::{LookFault, Seen};
+pub use setup::{Setup, StoreKind};
