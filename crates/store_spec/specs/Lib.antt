@@ -1,0 +1,4 @@
+pub mod Store
+pub mod Pins
+pub mod Standing
+pub mod Steps
