@@ -1,0 +1,3 @@
+pub mod EngineLaws
+pub mod Counting
+pub mod Runs

@@ -122,6 +122,7 @@ pub record IsLiveStore (told : Option History) (kept : StoreData) (readers : Rea
 pub record StandsFrom (sound : PageMap → Type 0) (leads : PageMap → List (List ℕ) → PageMap → Type 0) (first : PageMap)
     (told : Option History) (kept : StoreData) (readers : Readers) : Type 0 where
   pub snaps : SnapsBefore 0 kept.history
+  pub newest : IfSome told (λ told. sound (newest_in kept.pair (reads told)) × leads first (statements_of kept.history) (newest_in kept.pair (reads told)))
   pub fronts : IfSome told (λ told. (n : ℕ) → IsFront kept n → sound (map_over kept.pair (mark_at kept.history (since_of kept) n) (reads told))
       × leads first (statements_of (take n kept.history)) (map_over kept.pair (mark_at kept.history (since_of kept) n) (reads told)))
   pub older : 0 < holders (two_logs kept) readers → IfSome told (λ told. (n : ℕ) → IsOlderFront kept n → sound (map_below kept.pair (mark_at kept.history (other_since_of kept) n) (reads told))
