@@ -1,5 +1,5 @@
 -- Frames of pages, appended one by one.
-use Rattle.std.proofs.Common.{◌≡◌, ◌≢◌, ◌∙◌, ℕ, ◌+◌, if◌then◌else◌, Bool, true, false, List, [], ◌∷◌, ◌++◌, length, length-append, refl, sym, ap, subst, arith, Option}
+use Rattle.std.proofs.Common.{take, get_or, ◌≡◌, ◌≢◌, ◌∙◌, ℕ, ◌+◌, if◌then◌else◌, Bool, true, false, List, [], ◌∷◌, ◌++◌, length, length-append, refl, sym, ap, subst, arith, Option}
 use Rattle.std.proofs.lemmas.Grind.{fold-append}
 use Rattle.disk_face.specs.Steps.{History}
 use Rattle.page_spec.specs.PageMap.{PageMap}
@@ -15,8 +15,11 @@ use Rattle.engine_spec.specs.declared.commits.PageImage.{PageImage}
 use Rattle.log_pair.specs.Pair.{PairView, current_file, current_header, with_frame, sealed_pair}
 use Rattle.log_pair.specs.Appending.{AppendsFrame, SealsFrames, SyncsFile, LogStands}
 use Rattle.log_pair.proofs.Standing.{since_weaker}
-use Rattle.log_commit.specs.Commit.{AreFramesOf, StandsAs, LeavesEither, IsCommittedTo, MayCome, WritesCommit, map_under, with_pending, with_more, with_appended}
-use Rattle.log_commit.specs.Appended.{IsGrowing, HasAppended, FailsToAppend}
+use Rattle.log_commit.specs.Commit.{AreFramesOf, StandsAs, LeavesEither, IsCommittedTo, MayCome, WritesCommit, map_under, with_pending, with_more, with_appended, no_image}
+use Rattle.log_commit.specs.Pages.{images_of}
+use Rattle.log_commit.specs.Appended.{IsGrowing, HasAppended, FailsToAppend, AppendsImage}
+use Rattle.log_commit.specs.declared.commit.CommitPages.{CommitPages}
+use Rattle.log_commit.proofs.Order.{all_images, length_front}
 use Rattle.log_commit.proofs.Growing.{LiesOver, one_more, one_refused, grows_none, seals_all, other_later, either_images}
 use Rattle.log_commit.proofs.Lying.{lies_over}
 
@@ -192,3 +195,22 @@ front_fails pair later images size old new same fails = (
     moments = λ opening view of fits h. fails opening view (map_under view.map images size) of h;
   },
 )
+
+-- the same of the pages that a commit is handed
+pub commits_all : (ok : Bool) (pair mid_pair later sealed : PairView) (pages : CommitPages) (size : ℕ) (old mid near new : Option History) → size ≢ 0
+    → mid_pair ≡ with_appended pair mid_pair → mid_pair.appended ≡ length pages.order.now → HasAppended pair mid_pair (take (length pages.order.now) (images_of pages)) old mid
+    → AppendsImage true mid_pair later (get_or (images_of pages) (length pages.order.now) no_image) size mid near → SealsFrames ok later sealed near new
+    → (more : List Frame) × WritesCommit ok pair sealed (images_of pages) size more old new
+commits_all ok pair mid_pair later sealed pages size old mid near new some same counted appended (frame, appends) seals =
+    subst (λ (images : List PageImage). (more : List Frame) × WritesCommit ok pair sealed images size more old new) (sym (all_images pages))
+    (commits ok pair mid_pair later sealed (take (length pages.order.now) (images_of pages)) (get_or (images_of pages) (length pages.order.now) no_image) size old mid near new frame
+    some same (counted ∙ sym (length_front pages)) appended appends seals)
+
+pub last_fails_all : (pair mid_pair later : PairView) (pages : CommitPages) (size : ℕ) (old mid new : Option History) → size ≢ 0
+    → mid_pair ≡ with_appended pair mid_pair → HasAppended pair mid_pair (take (length pages.order.now) (images_of pages)) old mid
+    → AppendsImage false mid_pair later (get_or (images_of pages) (length pages.order.now) no_image) size mid new
+    → (more : List Frame) × WritesCommit false pair later (images_of pages) size more old new
+last_fails_all pair mid_pair later pages size old mid new some same appended (frame, appends) =
+    subst (λ (images : List PageImage). (more : List Frame) × WritesCommit false pair later images size more old new) (sym (all_images pages))
+    (last_fails pair mid_pair later (take (length pages.order.now) (images_of pages)) (get_or (images_of pages) (length pages.order.now) no_image) size old mid new frame
+    some same appended appends)

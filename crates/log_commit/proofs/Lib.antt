@@ -2,3 +2,5 @@ mod Growing
 mod Lying
 mod Same
 mod Appending
+pub mod Order
+pub mod Steps

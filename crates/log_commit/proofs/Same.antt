@@ -1,5 +1,5 @@
 -- What the calls on one file leave of the others.
-use Rattle.std.proofs.Common.{◌≡◌, ◌∙◌, Bool, true, false, refl, sym, subst, inl, inr, Option, Some, None}
+use Rattle.std.proofs.Common.{◌≡◌, ◌∙◌, ℕ, ap, Bool, true, false, refl, sym, subst, inl, inr, Option, Some, None}
 use Rattle.disk_face.specs.declared.disk.File.{File}
 use Rattle.disk_face.specs.declared.step.Piece.{Piece}
 use Rattle.disk_face.specs.declared.step.Step.{Step}
@@ -8,8 +8,11 @@ use Rattle.disk_face.specs.Steps.{History, after, further}
 use Rattle.disk_face.specs.Image.{same_file}
 use Rattle.crash_spec.specs.Elsewhere.{IsElsewhere}
 use Rattle.crash_spec.proofs.Elsewhere.{content_elsewhere}
-use Rattle.log_pair.specs.Appending.{WritesPiece, SyncsFile}
-use Rattle.log_commit.specs.Commit.{SameElsewhere}
+use Rattle.engine_spec.specs.declared.commits.PageImage.{PageImage}
+use Rattle.log_pair.specs.Pair.{PairView, current_file, next_piece}
+use Rattle.log_pair.specs.Appending.{WritesPiece, SyncsFile, SealsFrames}
+use Rattle.log_commit.specs.Commit.{SameElsewhere, with_appended}
+use Rattle.log_commit.specs.Appended.{AppendsImage}
 
 pub same_refl : (file : File) (old : Option History) → SameElsewhere file old old
 same_refl file None = refl
@@ -44,3 +47,16 @@ same_join file None mid new one two = go mid new one two
 same_join file (Some old) mid new one two =
     let second = subst (λ (told : Option History). SameElsewhere file told new) one.1 two in
     (second.0, second.1, λ other apart. second.2 other apart ∙ one.2 other apart)
+
+-- one more append, after others
+pub same_more : (ok : Bool) (pair mid_pair later : PairView) (image : PageImage) (size : ℕ) (old mid new : Option History) → mid_pair ≡ with_appended pair mid_pair
+    → SameElsewhere (current_file pair) old mid → AppendsImage ok mid_pair later image size mid new → SameElsewhere (current_file pair) old new
+same_more ok pair mid_pair later image size old mid new is same (frame, appends) =
+    same_join (current_file pair) old mid new same
+    (subst (λ (f : File). SameElsewhere f mid new) (ap (λ (p : PairView). current_file p) is) (same_written ok (next_piece mid_pair frame) mid new appends.step))
+
+-- and the seal of all of them
+pub same_sealed : (ok : Bool) (pair later sealed : PairView) (old mid new : Option History) → later ≡ with_appended pair later
+    → SameElsewhere (current_file pair) old mid → SealsFrames ok later sealed mid new → SameElsewhere (current_file pair) old new
+same_sealed ok pair later sealed old mid new is same seals =
+    same_join (current_file pair) old mid new same (same_synced ok (current_file pair) (current_file later) mid new seals.step)

@@ -1,5 +1,5 @@
 -- Frames that were appended and don't end a commit yet.
-use Rattle.std.specs.Prelude.{◌≡◌, List, Option}
+use Rattle.std.specs.Prelude.{◌≡◌, ℕ, Bool, List, Option}
 use Rattle.disk_face.specs.Steps.{History}
 use Rattle.log_spec.specs.Accept.{Frame, last_size}
 use Rattle.page_spec.specs.PageMap.{PageMap}
@@ -8,7 +8,7 @@ use Rattle.crash_spec.specs.Passes.{Passes}
 use Rattle.crash_spec.specs.Store.{StoreView, Holds}
 use Rattle.engine_spec.specs.declared.commits.PageImage.{PageImage}
 use Rattle.log_pair.specs.Pair.{PairView}
-use Rattle.log_pair.specs.Appending.{LogStands}
+use Rattle.log_pair.specs.Appending.{LogStands, AppendsFrame}
 use Rattle.log_pair.specs.Switch.{IsStoreOf}
 use Rattle.log_commit.specs.Commit.{AreFramesOf, StandsAs, LeavesEither, MayCome, with_pending}
 
@@ -33,3 +33,7 @@ abbrev pub FailsToAppend : PairView → Option History → Option History → Ty
 FailsToAppend pair old new = (opening : Opening) (view : StoreView) (after : PageMap) → IsStoreOf pair view
     → Since opening.start (StandsAs opening view pair) old
     → Passes opening (LeavesEither opening view.map after) (MayCome opening view after) old new
+
+-- A frame of the page was appended by one write, or that was refused; the commit that it ends has this size, 0 where it ends none.
+abbrev pub AppendsImage : Bool → PairView → PairView → PageImage → ℕ → Option History → Option History → Type 0
+AppendsImage ok pair later image size old new = (frame : Frame) × AppendsFrame ok pair later image.page size image.bytes old new frame

@@ -1,21 +1,34 @@
 -- The frames of a commit, written to the current log of a store.
-use Rattle.std.specs.Prelude.{◌≡◌, ◌⊎◌, ℕ, ◌+◌, ◌<◌, ◌≤◌, ◌==◌, if◌then◌else◌, Bool, true, false, List, [], ◌∷◌, ◌++◌, length, map, Contains, Option, Some, None}
+use Rattle.std.specs.Prelude.{◌≡◌, ◌⊎◌, ℕ, ◌+◌, ◌<◌, ◌≤◌, ◌==◌, if◌then◌else◌, Bool, true, false, List, [], ◌∷◌, ◌++◌, length, map, get_or, Contains, Option, Some, None}
 use Rattle.disk_face.specs.declared.disk.File.{File}
+use Rattle.disk_face.specs.declared.step.Step.{Step}
+use Rattle.disk_face.specs.declared.step.Step.TheVariants.{Wrote, Refused, Synced}
 use Rattle.disk_face.specs.Files.{Files, content}
 use Rattle.disk_face.specs.Steps.{History, reads}
 use Rattle.disk_face.specs.Image.{same_file}
 use Rattle.page_spec.specs.Header.{fields_of, page_size_in}
 use Rattle.page_spec.specs.PageMap.{PageMap, page_at}
+use Rattle.log_spec.specs.LogHeader.{LogFields, header_size}
 use Rattle.log_spec.specs.Accept.{Frame, page_number, page_of}
 use Rattle.crash_spec.specs.Opening.{Opening, Since}
 use Rattle.crash_spec.specs.Known.{IsWithoutChance}
 use Rattle.crash_spec.specs.Passes.{Passes, ByAnswer}
+use Rattle.crash_spec.specs.Logs.{HasSalts}
 use Rattle.crash_spec.specs.Recovered.{pages_from, recovered}
 use Rattle.crash_spec.specs.Store.{StoreView, Holds}
 use Rattle.engine_spec.specs.declared.commits.PageImage.{PageImage}
 use Rattle.log_pair.specs.Pair.{PairView, log_of, with_log, current_header}
 use Rattle.log_pair.specs.Appending.{LogStands}
 use Rattle.log_pair.specs.Switch.{IsStoreOf}
+
+-- what is found in a list where it has ended
+abbrev pub no_image : PageImage
+no_image = record { page = 0; bytes = [] }
+
+-- the images at these places, in this order
+abbrev pub in_order : List PageImage → List ℕ → List PageImage
+in_order changed [] = []
+in_order changed (place ∷ order) = get_or changed place no_image ∷ in_order changed order
 
 -- the frames hold these pages, one each, in their order
 abbrev pub AreFramesOf : List PageImage → List Frame → Type 0
@@ -88,6 +101,13 @@ abbrev pub SameElsewhere : File → Option History → Option History → Type 0
 SameElsewhere file None new = new ≡ None
 SameElsewhere file (Some old) new =
     (told : History) × (new ≡ Some told) × ((other : File) → same_file file other ≡ false → content (reads told) other ≡ content (reads old) other)
+
+-- a step of a commit: a frame with the header's salts is written to the file behind its header, or that is refused; or the file is synced
+abbrev pub IsCommitStep : File → LogFields → Step → Type 0
+IsCommitStep file header (Wrote piece) = (piece.file ≡ file) × (header_size ≤ piece.at) × HasSalts header piece.bytes
+IsCommitStep file header (Refused piece left) =
+    (piece.file ≡ file) × (header_size ≤ piece.at) × HasSalts header piece.bytes × (length left ≤ length piece.bytes)
+IsCommitStep file header (Synced other) = other ≡ file
 
 -- Frames of these pages were appended to the current log, the last of which ends a commit of this size, and sealed; or a call failed.
 pub record WritesCommit (ok : Bool) (pair later : PairView) (images : List PageImage) (size : ℕ) (more : List Frame) (old new : Option History) : Type 0 where

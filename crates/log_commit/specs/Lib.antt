@@ -1,2 +1,4 @@
+pub mod GoesBy
 pub mod Commit
+pub mod Pages
 pub mod Appended

@@ -5,4 +5,4 @@
 
 mod commit;
 
-pub use commit::write_commit;
+pub use commit::{CommitPages, write_commit};
