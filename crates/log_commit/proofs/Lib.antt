@@ -4,3 +4,5 @@ mod Same
 mod Appending
 pub mod Order
 pub mod Steps
+pub mod SinceSteps
+pub mod FrontLaws

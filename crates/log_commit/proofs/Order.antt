@@ -1,5 +1,5 @@
 -- The pages that a commit is handed, one by one.
-use Rattle.std.proofs.Common.{◌≡◌, ◌≢◌, ◌∙◌, ℕ, zero, suc, ◌+◌, ◌-◌, ◌<◌, ◌≤◌, List, [], ◌∷◌, ◌++◌, length, take, get_or, refl, sym, ap, subst, arith, take_all}
+use Rattle.std.proofs.Common.{◌≡◌, ◌≢◌, ◌∙◌, ℕ, zero, suc, ◌+◌, ◌-◌, ◌<◌, ◌≤◌, List, [], ◌∷◌, ◌++◌, length, take, get_or, map, refl, sym, ap, subst, arith, take_all}
 use Rattle.std.specs.Prelude.{All}
 use Rattle.std.proofs.lemmas.List.{take_more, get_or_default, length-take-le}
 use Rattle.std.proofs.lemmas.List.Elements.{All-nil, All-cons, All-head, All-tail}
@@ -21,8 +21,13 @@ all_in_order P changed (place ∷ order) within all =
     (all place no_image (All-head (λ place. place < length changed) place order within))
     (all_in_order P changed order (All-tail (λ place. place < length changed) place order within) all)
 
+-- they are those that the places are mapped to
+pub in_order_is : (changed : List PageImage) (order : List ℕ) → in_order changed order ≡ map (λ place. get_or changed place no_image) order
+in_order_is changed [] = refl
+in_order_is changed (place ∷ order) = ap (λ (images : List PageImage). get_or changed place no_image ∷ images) (in_order_is changed order)
+
 -- the image at a place of the order
-at_place : (changed : List PageImage) (order : List ℕ) (i : ℕ) → i < length order → get_or (in_order changed order) i no_image ≡ get_or changed (get_or order i 0) no_image
+pub at_place : (changed : List PageImage) (order : List ℕ) (i : ℕ) → i < length order → get_or (in_order changed order) i no_image ≡ get_or changed (get_or order i 0) no_image
 at_place changed [] i less = absurd (omega arith)
 at_place changed (place ∷ order) zero less = refl
 at_place changed (place ∷ order) (suc i) less = at_place changed order i (omega arith)

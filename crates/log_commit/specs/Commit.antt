@@ -21,7 +21,7 @@ use Rattle.log_pair.specs.Pair.{PairView, log_of, with_log, current_header}
 use Rattle.log_pair.specs.Appending.{LogStands}
 use Rattle.log_pair.specs.Switch.{IsStoreOf}
 
--- what is found in a list where it has ended
+-- what stands for an image behind the end of a list
 abbrev pub no_image : PageImage
 no_image = record { page = 0; bytes = [] }
 

@@ -48,7 +48,8 @@ pub fn write_commit<D: Disk>(
     requires reached { IsReached (D.told disk.old) pair.old }
     ensures writes { (more : List Frame) × WritesCommit (is_ok result) pair.old pair.new (images_of pages.now) size more (D.told disk.old) (D.told disk.new) }
     ensures steps { GoesBy (IsCommitStep (current_file pair.old) (current_header pair.old)) (D.told disk.old) (D.told disk.new) }
-    ensures synced { OnOk result ((mid : Option History) × (D.told disk.new ≡ after (Synced (current_file pair.old)) mid)) }
+    ensures synced { OnOk result ((mid : Option History) × (D.told disk.new ≡ after (Synced (current_file pair.old)) mid)
+        × GoesBy (IsCommitStep (current_file pair.old) (current_header pair.old)) (D.told disk.old) mid) }
     ensures reached { OnOk result (IsReached (D.told disk.new) pair.new) }
     ensures elsewhere { SameElsewhere (current_file pair.old) (D.told disk.old) (D.told disk.new) }
     ensures stays { OnlyWrites D.DiskTells disk.old disk.new }

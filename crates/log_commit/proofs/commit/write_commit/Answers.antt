@@ -4,7 +4,7 @@ use Rattle.engine_spec.specs.declared.commits.PageImage.{PageImage}
 use Rattle.log_commit.specs.Commit.{no_image}
 use Rattle.log_commit.specs.Pages.{images_of}
 use Rattle.log_commit.proofs.Same.{same_more, same_sealed}
-use Rattle.log_commit.proofs.Steps.{goes_more, goes_sealed}
+use Rattle.log_commit.proofs.Steps.{goes_more, goes_sealed, ends_synced}
 use Rattle.log_commit.proofs.Appending.{appended_again, commits_all, last_fails_all, front_fails}
 use Rattle.log_commit.proofs.commit.write_commit.Goals as goal
 
@@ -61,3 +61,15 @@ pub returns-in-Err-clause-writes : goal.returns-in-Err-clause-writes
 returns-in-Err-clause-writes g c =
     front_fails c.args.pair.now c.append_pages.new.pair _ c.args.size (g.D.DiskTells.told c.args.disk.now) (g.D.DiskTells.told c.append_pages.new.disk)
     c.in-Err.ensures.becomes c.in-Err.ensures.fails
+
+pub returns-in-Ok-append_page-clause-synced : goal.returns-in-Ok-append_page-clause-synced
+returns-in-Ok-append_page-clause-synced g c =
+    let a = c.in-Ok.ensures in
+    let e = c.in-Ok-append_page.ensures in
+    let last : PageImage = get_or (images_of c.args.pages.now) (length c.args.pages.now.order.now) no_image in
+    let old = g.D.DiskTells.told c.args.disk.now in
+    let mid = g.D.DiskTells.told c.append_pages.new.disk in
+    let near = g.D.DiskTells.told c.append_page.new.disk in
+    let again = appended_again c.args.pair.now c.append_pages.new.pair c.append_page.new.pair e.appends.0 a.becomes e.appends.1.becomes in
+    ends_synced c.seal.result c.args.pair.now c.append_page.new.pair c.seal.new.self old near (g.D.DiskTells.told c.seal.new.disk) again
+    (goes_more true c.args.pair.now c.append_pages.new.pair c.append_page.new.pair last c.args.size old mid near a.becomes a.steps e.appends) c.seal.ensures.seals
