@@ -16,7 +16,7 @@ use Rattle.page_spec.specs.Bytes.{u32_at}
 use Rattle.log_spec.specs.LogHeader.{LogFields, log_fields, IsOurs, header_size, header_bytes}
 use Rattle.crash_spec.specs.Elsewhere.{IsElsewhere}
 use Rattle.crash_spec.specs.Known.{known_pieces, outlasts}
-use Rattle.crash_spec.specs.Logs.{IsFresh, IsOneOf, HasHeader, IsBehind, IsOursAt, IsOnlyHeader}
+use Rattle.crash_spec.specs.Logs.{IsWhole, IsFresh, IsOneOf, HasHeader, IsBehind, IsOursAt, IsOnlyHeader}
 use Rattle.crash_spec.specs.Marks.{IsLog, number_of}
 use Rattle.crash_spec.specs.Opening.{Opening, Since, grown}
 use Rattle.crash_spec.proofs.Elsewhere.{content_elsewhere, only_elsewhere, behind_elsewhere, ours_elsewhere}
@@ -24,9 +24,10 @@ use Rattle.crash_spec.proofs.Headers.{only_header}
 use Rattle.crash_spec.proofs.Salts.{behind_next, behind_more, next_is_fresh}
 use Rattle.crash_spec.proofs.StoreSteps.{main_apart}
 use Rattle.log_pair.specs.Switch.{front_piece}
+use Rattle.log_commit.specs.GoesBy.{GoesBy}
 use Rattle.log_commit.specs.Commit.{IsCommitStep}
 use Rattle.log_commit.specs.Fronts.{HasFront}
-use Rattle.log_commit.proofs.SinceSteps.{since_after, commits_elsewhere}
+use Rattle.log_commit.proofs.SinceSteps.{since_after, since_goes, whole_goes, commits_elsewhere}
 
 -- a step that writes nothing to the log leaves its front, be it a sync of the log itself
 pub front_elsewhere : (opening : Opening) (told : History) (log : File) (salt most : ℕ) (step : Step) → IsElsewhere log step
@@ -177,3 +178,23 @@ since_begun opening P Q log bytes old new is law h =
     (λ mid (told, holds, same). subst (λ (m : History). Q (further (Synced log) m)) (sym same) (law told holds))
     (since_after opening.start P (λ mid. (told : History) × P told × (mid ≡ further (Wrote (front_piece log bytes)) told)) (Wrote (front_piece log bytes)) old
     (after (Wrote (front_piece log bytes)) old) refl (λ told holds. (told, holds, refl)) h)
+
+-- what is known of both logs after a commit's steps, done or not
+pub since_commit_fronts : (opening : Opening) (P : History → Type 0) (file other : File) (header : LogFields) (salt most salt_there most_there : ℕ) (old new : Option History)
+    → GoesBy (IsCommitStep file header) old new → header.salt1 ≡ salt → salt < 2 ^ 32 → same_file file other ≡ false
+    → ((told : History) → P told → (header_size ≤ length (content (reads told) file)) × HasFront opening told file salt most × HasFront opening told other salt_there most_there)
+    → Since opening.start P old → Since opening.start (λ told. HasFront opening told file salt most × HasFront opening told other salt_there most_there) new
+since_commit_fronts opening P file other header salt most salt_there most_there old new goes salted small apart has h =
+    since_goes opening.start P (λ told. HasFront opening told file salt most × HasFront opening told other salt_there most_there) (IsCommitStep file header) old new goes
+    (λ told more all holds.
+    let now = has told holds in (
+      (front_commits opening told file header salt most more salted small now.0 all now.1).0,
+      front_beside opening told file other header salt_there most_there more apart all now.2,
+    )) h
+
+-- and what is on the medium of any other file
+pub since_commit_whole : (opening : Opening) (file other : File) (header : LogFields) (old new : Option History) → GoesBy (IsCommitStep file header) old new
+    → same_file file other ≡ false → Since opening.start (λ told. IsWhole opening told other) old → Since opening.start (λ told. IsWhole opening told other) new
+since_commit_whole opening file other header old new goes apart h =
+    since_goes opening.start (λ told. IsWhole opening told other) (λ told. IsWhole opening told other) (IsCommitStep file header) old new goes
+    (λ told more all whole. whole_goes opening other told more (commits_elsewhere file other header more apart all) whole) h
