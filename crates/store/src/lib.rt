@@ -2,8 +2,11 @@
 #![tactic(auto)]
 
 mod commits;
+mod fetch;
 mod kept_pages;
 mod room;
+mod store;
 
 pub use commits::{Commits, Wrote};
 pub use kept_pages::KeptPages;
+pub use store::{Halt, Store};

@@ -24,7 +24,7 @@ use Rattle.engine_spec.proofs.Laying.{agree_refl}
 use Rattle.wal_index.specs.Index.{log_in}
 use Rattle.log_pair.specs.Pair.{PairView, log_of, other_number, current_header}
 use Rattle.store_spec.specs.Store.{StoreData, frames_in, current_read, other_read, newest_in, map_over, map_below, pin_map_in, newest_told, pin_told, store_state, two_logs, since_of, other_since_of}
-use Rattle.store_spec.specs.Pins.{PinHolds, IsOfCurrent, IsOfOther, IsFront, mark_at, part_of, full_of}
+use Rattle.store_spec.specs.Pins.{PinHolds, IsOfCurrent, IsOfOther, IsFront, mark_at, part_of, full_of, newest_pin}
 use Rattle.store_spec.specs.Standing.{IsWholeStore, IsCountedLog, IsLiveStore, StandsFrom}
 use Rattle.store_spec.proofs.EngineLaws.{held, of_some}
 use Rattle.store_spec.proofs.Counting.{has_reader, holders_are}
@@ -74,15 +74,6 @@ lock_is current done = by (current == 1) done
     by true false = inr refl
     by false true = inl refl
     by false false = inr refl
-
-abbrev pub newest_pin : StoreData → Pin
-newest_pin kept = record {
-  n = length kept.history;
-  size = kept.size;
-  lock = lock_of (two_logs kept);
-  generation = (current_header kept.pair).generation;
-  mark = frames_now (Some (two_logs kept)) kept.history;
-}
 
 pub newest_pin_map : (kept : StoreData) (files : Files) → IsWholeStore kept → pin_map_in kept.pair (newest_pin kept) files ≡ newest_in kept.pair files
 newest_pin_map kept files whole =

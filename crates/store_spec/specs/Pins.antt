@@ -2,7 +2,7 @@
 --
 -- A pin is of a moment at which its log was the current one. Its lock says which of the logs it reads: Part of a log reads a front of that log
 -- over Main, Full also all of the other one between them.
-use Rattle.std.specs.Prelude.{◌≡◌, ◌⊎◌, ℕ, ◌+◌, ◌<◌, ◌≤◌, ◌==◌, Bool, true, false, if◌then◌else◌, List, [], ◌∷◌, length, take, drop, Option, IfSome, Contains}
+use Rattle.std.specs.Prelude.{◌≡◌, ◌⊎◌, ℕ, ◌+◌, ◌<◌, ◌≤◌, ◌==◌, Bool, true, false, if◌then◌else◌, List, [], ◌∷◌, length, take, drop, Option, Some, IfSome, Contains}
 use Rattle.disk_face.specs.Faults.{last_count}
 use Rattle.disk_face.specs.Steps.{History, reads}
 use Rattle.engine_spec.specs.declared.commits.Commit.{Commit}
@@ -14,9 +14,10 @@ use Rattle.engine_spec.specs.declared.pins.Lock.TheVariants.{Part1, Part1Full2, 
 use Rattle.engine_spec.specs.declared.pins.Readers.{Readers}
 use Rattle.engine_spec.specs.Good.{HasSizes, MayLayOn}
 use Rattle.engine_spec.specs.History.{NoConflict}
-use Rattle.engine_spec.specs.TwoLogs.{frames_of, readers_of}
+use Rattle.engine_spec.specs.Events.{frames_now}
+use Rattle.engine_spec.specs.TwoLogs.{frames_of, readers_of, lock_of}
 use Rattle.log_pair.specs.Pair.{current_header, other_number}
-use Rattle.store_spec.specs.Store.{StoreData, newest_in, pin_map_in, since_of, other_since_of}
+use Rattle.store_spec.specs.Store.{StoreData, newest_in, pin_map_in, since_of, other_since_of, two_logs}
 
 -- the lock on a front of a log, and the one on all of the other log too
 abbrev pub part_of : ℕ → Lock
@@ -77,3 +78,13 @@ pins_with lock (pin ∷ pins) = (if same_lock pin.lock lock then 1 else 0) + pin
 -- each pin is counted among the readers of its lock; a count at its last value stays there
 abbrev pub AreCounted : Readers → List Pin → Type 0
 AreCounted readers pins = (lock : Lock) → (pins_with lock pins ≤ readers_of readers lock) ⊎ (readers_of readers lock ≡ last_count)
+
+-- the pin of a reader that comes now: it is of the newest map
+abbrev pub newest_pin : StoreData → Pin
+newest_pin kept = record {
+  n = length kept.history;
+  size = kept.size;
+  lock = lock_of (two_logs kept);
+  generation = (current_header kept.pair).generation;
+  mark = frames_now (Some (two_logs kept)) kept.history;
+}
