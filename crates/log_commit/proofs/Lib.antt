@@ -1,4 +1,4 @@
 mod Growing
-mod Lying
+pub mod Lying
 mod Same
 mod Appending
