@@ -1,3 +1,4 @@
 pub mod Reading
 pub mod Copied
 pub mod Taken
+pub mod Standing
