@@ -1,2 +1,2 @@
-mod Copies
-mod Stepping
+pub mod Copies
+pub mod Stepping

@@ -1,6 +1,6 @@
 -- The next page of the other log, its last frame, and where that stands.
 use Rattle.std.proofs.Common.{◌≡◌, ◌∙◌, ℕ, ◌+◌, ◌-◌, ◌*◌, ◌<◌, ◌≤◌, List, length, Option, Some, None, sym, ap, subst, arith, slice_index, get_or, zero, suc, [], ◌∷◌}
-use Rattle.std.specs.Prelude.{Contains, true, false, Result, Ok, Err, IfOk}
+use Rattle.std.specs.Prelude.{Contains, true, false, Result, Ok, Err, IfOk, OnErr}
 use Rattle.disk_face.specs.declared.disk.File.TheVariants.{Main}
 use Rattle.disk_face.specs.declared.step.Step.TheVariants.{Synced}
 use Rattle.disk_face.specs.declared.disk.File.{File}
@@ -87,6 +87,11 @@ none_left pages copied found is finds = subst (λ (f : Option ℕ). FindsNext pa
 pub of_ok : {A E : Type 0} (result : Result A E) (P Q : A → Type 0) → ((answer : A) → P answer → Q answer) → IfOk result P → IfOk result Q
 of_ok (Ok answer) P Q more is = more answer is
 of_ok (Err why) P Q more is = tt
+
+-- what holds anyway holds where a call failed
+pub on_err : {A E : Type 0} (result : Result A E) (P : Type 0) → P → OnErr result P
+on_err (Ok answer) P is = tt
+on_err (Err why) P is = is
 
 -- all pages were copied, and the database was synced
 pub finishes : (pair : PairView) (pages : List ℕ) (state : LogState) (readers : Readers) (bytes : List ℕ) (old told : Option History) (new : LogState)

@@ -34,7 +34,7 @@ use wal_rules::{LogState, may_copy};
 /// change. It takes no memory.
 ///
 /// The index holds the frames of the pair, and the buffer, of one page, has the page that was copied. After `Failed` the count of faults rose and
-/// the state is as before: the step may be taken again.
+/// the state is as before: the step may be taken again. It comes only where readers hold nothing of what a copy would change.
 pub fn step<D: Disk>(
     disk: &mut D,
     pair: &LogPair,
@@ -55,6 +55,7 @@ pub fn step<D: Disk>(
         (D.told disk.old) (D.told disk.new)) }
     ensures refused { OnErr result (state.new ≡ state.old) }
     ensures fails { OnErr result (FailsIn (pages_behind index.now state.old) state.old (length buf.old) (D.told disk.old) (D.told disk.new)) }
+    ensures unheld { OnErr result ((state.old.done ≡ false) × (readers_behind state.old readers.now ≡ 0)) }
     ensures logs { (rest : TwoLogs) (history : List Commit) → IsIndexOf index.now (logs_with state.old rest) history
         → IfOk result (λ answer. Steps (logs_with state.old rest) readers.now history answer (logs_with state.new rest)) }
     ensures moments { (opening : Opening) (view : StoreView) → Since opening.start (Holds opening view) (D.told disk.old) → view.size ≡ length buf.old

@@ -1,5 +1,5 @@
 mod Growing
-mod Lying
+pub mod Lying
 mod Same
 mod Appending
 pub mod Order

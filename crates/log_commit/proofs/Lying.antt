@@ -37,7 +37,7 @@ size_both frames [] below some = absurd (some refl)
 size_both [] (m ∷ ms) below some = refl
 size_both (f ∷ fs) (m ∷ ms) below some = last_of_both (f ∷ fs) m ms
 
-length-pages : (page : ℕ → List ℕ) (number count : ℕ) → length (pages_from page number count) ≡ count
+pub length-pages : (page : ℕ → List ℕ) (number count : ℕ) → length (pages_from page number count) ≡ count
 length-pages page number zero = refl
 length-pages page number (suc count) = ap suc (length-pages page (number + 1) count)
 
@@ -46,7 +46,7 @@ read_pages page number zero i less = absurd (omega arith)
 read_pages page number (suc count) zero less = ap page (omega arith)
 read_pages page number (suc count) (suc i) less = read_pages page (number + 1) count i (omega arith) ∙ ap page (omega arith)
 
-page_of_map : (page : ℕ → List ℕ) (count number : ℕ) → 1 ≤ number → number ≤ count → page_at (pages_from page 1 count) number ≡ page number
+pub page_of_map : (page : ℕ → List ℕ) (count number : ℕ) → 1 ≤ number → number ≤ count → page_at (pages_from page 1 count) number ≡ page number
 page_of_map page count zero from within = absurd (omega arith)
 page_of_map page count (suc number) from within = read_pages page 1 count number (omega arith) ∙ ap page (omega arith)
 

@@ -2,6 +2,6 @@ pub mod AsRead
 mod FrameLaid
 pub mod GoingOver
 mod NewHeaders
-mod Reading
+pub mod Reading
 pub mod Standing
 mod Written

@@ -19,7 +19,7 @@ front_of_row first rest row is =
     sym (take-take (length first) (length (first ++ rest)) row (omega (arith, length-append first rest)))
     ∙ ap (λ (xs : List ℕ). take (length first) xs) is ∙ take_at first rest (length first) refl
 
-rest_of_row : (first rest row : List ℕ) → take (length (first ++ rest)) row ≡ first ++ rest → take (length rest) (drop (length first) row) ≡ rest
+pub rest_of_row : (first rest row : List ℕ) → take (length (first ++ rest)) row ≡ first ++ rest → take (length rest) (drop (length first) row) ≡ rest
 rest_of_row first rest row is =
     sym (drop-take (length first) (length rest) row) ∙ ap (λ (n : ℕ). drop (length first) (take n row)) (sym (length-append first rest))
     ∙ ap (λ (xs : List ℕ). drop (length first) xs) is ∙ drop_at first rest (length first) refl

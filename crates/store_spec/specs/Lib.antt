@@ -2,3 +2,4 @@ pub mod Store
 pub mod Pins
 pub mod Standing
 pub mod Steps
+pub mod Named

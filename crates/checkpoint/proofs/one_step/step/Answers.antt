@@ -1,6 +1,6 @@
 use Rattle.crash_spec.proofs.StoreMoments.{keeps_still}
 use Rattle.checkpoint.specs.Steps.{pages_behind}
-use Rattle.checkpoint.proofs.Stepping.{none_holds, some_hold, none_left, of_ok, finishes, is_step}
+use Rattle.checkpoint.proofs.Stepping.{none_holds, some_hold, none_left, of_ok, on_err, finishes, is_step}
 use Rattle.std.proofs.Common.{refl}
 use Rattle.checkpoint.proofs.one_step.step.Goals as goal
 
@@ -50,3 +50,11 @@ returns-in-None-clause-logs g c = λ rest history is.
 
 pub returns-in-None-clause-moments : goal.returns-in-None-clause-moments
 returns-in-None-clause-moments g c = λ opening view h sized pages. c.finish.ensures.moments opening view h
+
+pub returns-in-Some-clause-unheld : goal.returns-in-Some-clause-unheld
+returns-in-Some-clause-unheld g c =
+    on_err c.copy_next.result _ (c.if-state.false, none_holds c.args.state.now c.args.readers.now c.may_copy.result _ c.in_default.is c.may_copy.ensures)
+
+pub returns-in-None-clause-unheld : goal.returns-in-None-clause-unheld
+returns-in-None-clause-unheld g c =
+    on_err c.finish.result _ (c.if-state.false, none_holds c.args.state.now c.args.readers.now c.may_copy.result _ c.in_default.is c.may_copy.ensures)
