@@ -6,3 +6,4 @@ pub mod Reading
 pub mod Copied
 pub mod Taken
 pub mod Standing
+pub mod Stepping
