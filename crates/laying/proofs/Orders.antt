@@ -1,11 +1,16 @@
 -- Images in the order of their pages.
-use Rattle.std.proofs.Common.{◌≡◌, ℕ, ◌<◌, ◌≤◌, List, [], ◌∷◌, length, get_or, zero, suc, refl, subst, ap, ◌∙◌, inl, inr, arith, Contains, All}
-use Rattle.std.specs.Prelude.{slice_index}
-use Rattle.std.proofs.lemmas.Bool.{cases_eq}
+use Rattle.std.proofs.Common.{◌≡◌, ℕ, ◌<◌, ◌≤◌, List, [], ◌∷◌, length, get_or, zero, suc, true, eqb, refl, sym, subst, ap, ◌∙◌, inl, inr, arith, Contains, All}
+use Rattle.std.specs.Prelude.{◌+◌, ◌≢◌, slice_index}
+use Rattle.std.specs.List.{AllPairs, IsDistinct, list_any}
+use Rattle.std.proofs.lemmas.Bool.{cases_eq, ne_eqb}
+use Rattle.std.proofs.lemmas.Bool.Decides.{Decides-eqb}
 use Rattle.std.proofs.lemmas.List.{length-map, get_or-map, get_or_default}
-use Rattle.std.proofs.lemmas.List.Elements.{All-nil, All-head, All-tail, All-cons, All-get_or}
+use Rattle.std.proofs.lemmas.List.Elements.{All-nil, All-head, All-tail, All-cons, All-map, All-get_or}
+use Rattle.std.proofs.lemmas.List.Kept.{AllPairs-cons}
+use Rattle.std.proofs.lemmas.Map.Made.{IsDistinct-from_AllPairs}
+use Rattle.std.proofs.lemmas.Map.Steps.{length-le_from_distinct_below}
 use Rattle.engine_spec.specs.declared.commits.PageImage.{PageImage}
-use Rattle.engine_spec.specs.PageSet.{with_pages}
+use Rattle.engine_spec.specs.PageSet.{AreDifferent, with_pages}
 use Rattle.engine_spec.proofs.Conflicts.{contains_cases, contains_more}
 use Rattle.laying.specs.Order.{IsOrder, in_order, no_image, page_numbers}
 use Rattle.laying.proofs.Sets.{set_is}
@@ -81,3 +86,33 @@ set_of_ordered images order is =
 -- Images of pages among the first n are of pages from 1 on.
 pub from_1 : (images : List PageImage) (n : ℕ) → All (λ image. (1 ≤ image.page) × (image.page ≤ n)) images → All (λ image. 1 ≤ image.page) images
 from_1 images n range k d within = (range k d within).0
+
+-- An order has as many images as places.
+pub ordered_length : (images : List PageImage) (order : List ℕ) → length (in_order images order) ≡ length order
+ordered_length images [] = refl
+ordered_length images (place ∷ order) = ap suc (ordered_length images order)
+
+any_below : (numbers : List ℕ) (q n : ℕ) → All (λ number. number < n) numbers → list_any (eqb q) numbers ≡ true → q < n
+any_below [] q n below there = absurd cc
+any_below (number ∷ numbers) q n below there = elim (cases_eq q number) [
+  | inl same ↦ (let less = All-head (λ (number : ℕ). number < n) number numbers below in omega (arith, same, less))
+  | inr apart ↦ any_below numbers q n (All-tail (λ (number : ℕ). number < n) number numbers below) (rw (ne_eqb q number apart) at there)
+]
+
+-- Images of different pages among the first n are at most n.
+pub few_images : (images : List PageImage) (n : ℕ) → AreDifferent (page_numbers images)
+    → All (λ image. (1 ≤ image.page) × (image.page ≤ n)) images → length images ≤ n
+few_images images n different range =
+    let pages : List ℕ = page_numbers images in
+    let within : All (λ page. (1 ≤ page) × (page ≤ n)) pages =
+    All-map (λ (page : ℕ). (1 ≤ page) × (page ≤ n)) (λ (image : PageImage). image.page) images range in
+    let pairs : AllPairs (λ x y. x ≢ y) pages =
+    λ i j d before inside same. different i j before inside
+    (get_or_default pages i 0 d (omega arith) ∙ same ∙ sym (get_or_default pages j 0 d inside)) in
+    let apart : IsDistinct eqb (0 ∷ pages) =
+    IsDistinct-from_AllPairs Decides-eqb (0 ∷ pages)
+    (AllPairs-cons (λ x y. x ≢ y) 0 pages (λ k d inside same. (let low = (within k d inside).0 in omega (arith, same, low))) pairs) in
+    let below : All (λ page. page < n + 1) (0 ∷ pages) =
+    All-cons (λ (page : ℕ). page < n + 1) 0 pages (omega arith) (λ k d inside. (let high = (within k d inside).1 in omega arith)) in
+    let count = length-le_from_distinct_below (0 ∷ pages) (n + 1) apart (λ q there. any_below (0 ∷ pages) q (n + 1) below there) in
+    omega (arith, count, length-map images (λ (image : PageImage). image.page))

@@ -112,8 +112,8 @@ pub laid_in_place : (mode : Mode) (tail : Bool) (changed : List PageImage) (size
 laid_in_place mode tail changed size old mid new long different from is_mid is_new pages change is count first =
     let some : 1 ≤ length pages = has_first pages (subst (λ (bytes : List ℕ). 100 ≤ length bytes) (sym first) long) in
     let there = first_laid pages change is.fresh some
-        (subst (λ (images : List PageImage). AreDifferent (page_numbers images)) (sym is.is_changed) different)
-        (subst (All (λ (image : PageImage). 1 ≤ image.page)) (sym is.is_changed) from) in
+    (subst (λ (images : List PageImage). AreDifferent (page_numbers images)) (sym is.is_changed) different)
+    (subst (All (λ (image : PageImage). 1 ≤ image.page)) (sym is.is_changed) from) in
     let put : mid ≡ put_first change.mode change.tail (image_of change.changed 1) (page_at pages 1) =
     is_mid ∙ sym (ap (λ (m : Mode). put_first m tail (image_of changed 1) old) is.is_mode)
     ∙ sym (ap (λ (t : Bool). put_first change.mode t (image_of changed 1) old) is.is_tail)
