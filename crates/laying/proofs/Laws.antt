@@ -19,15 +19,11 @@ use Rattle.engine_spec.proofs.Laying.{laid-length}
 use Rattle.engine_spec.proofs.Conflicts.{contains_cases}
 use Rattle.engine_spec.proofs.WrittenSets.{writes_changed}
 use Rattle.log_commit.specs.Commit.{page_under, map_under, FitsMap}
-use Rattle.laying.specs.Order.{IsOrder, in_order, no_image, page_numbers}
+use Rattle.laying.specs.Order.{IsOrder, images_of, in_order, no_image, page_numbers}
 use Rattle.laying.specs.First.{put_first}
 use Rattle.laying.proofs.Sets.{all_above, rest_rises}
 use Rattle.laying.proofs.Orders.{page_read, all_in_order, set_in_order}
 use Rattle.laying.proofs.Pages.{over, first_laid, other_laid}
-
--- The images that a commit writes: page 1, and those in order.
-abbrev pub images_of : List ℕ → List PageImage → List ℕ → List PageImage
-images_of first changed order = (record { page = 1; bytes = first }) ∷ in_order changed order
 
 -- a page that none of the images is of
 under_none : (images : List PageImage) (q : ℕ) (below : List ℕ) → All (λ image. image.page ≡ q → ⊥) images → page_under images q below ≡ below

@@ -17,6 +17,10 @@ abbrev pub in_order : List PageImage → List ℕ → List PageImage
 in_order images [] = []
 in_order images (place ∷ order) = slice_index_or images place no_image ∷ in_order images order
 
+-- the images that a commit writes: page 1, of these bytes, and the others in this order
+abbrev pub images_of : List ℕ → List PageImage → List ℕ → List PageImage
+images_of first images order = (record { page = 1; bytes = first }) ∷ in_order images order
+
 -- An order of images: places among them, at which the page numbers rise from page 2 on, and none is left out.
 pub record IsOrder (images : List PageImage) (order : List ℕ) : Type 0 where
   pub places : All (λ place. place < length images) order

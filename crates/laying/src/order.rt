@@ -27,7 +27,7 @@ fn places(alloc: Global, changed: &[PageImage]) -> Result<Vec<u32>, AllocError>
     requires few { length changed.now < 2 ^ 32 }
     ensures { IfOk result (λ places. places.items ≡ places_from 0 changed.now) }
 {
-    let mut places = Vec::new(alloc);
+    let mut places = Vec::with_capacity(alloc, changed.len())?;
     let mut place = 0;
     while place < changed.len() {
         if changed[place].page > 1 {
