@@ -3,19 +3,11 @@ use Rattle.std.specs.Prelude.{ℕ, ◌+◌, ◌<◌, nat_lt, if◌then◌else◌
 use Rattle.std.specs.List.{slice_index_or}
 use Rattle.std.specs.List.Sorted.{IsStrictlyIncreasing}
 use Rattle.engine_spec.specs.declared.commits.PageImage.{PageImage}
+pub use Rattle.log_commit.specs.Commit.{no_image, in_order}
 
 -- the numbers of the pages that these images are of
 abbrev pub page_numbers : List PageImage → List ℕ
 page_numbers images = map (λ image. image.page) images
-
--- what is read past the end of a list of images
-abbrev pub no_image : PageImage
-no_image = record { page = 0; bytes = [] }
-
--- the images at these places, in this order
-abbrev pub in_order : List PageImage → List ℕ → List PageImage
-in_order images [] = []
-in_order images (place ∷ order) = slice_index_or images place no_image ∷ in_order images order
 
 -- the images that a commit writes: page 1, of these bytes, and the others in this order
 abbrev pub images_of : List ℕ → List PageImage → List ℕ → List PageImage
