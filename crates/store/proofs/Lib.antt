@@ -1,1 +1,2 @@
 mod Zipped
+mod Bare

@@ -6,6 +6,7 @@ use Rattle.disk_face.specs.Steps.{History}
 use Rattle.engine_spec.specs.declared.pins.Pin.{Pin}
 use Rattle.engine_spec.specs.declared.pins.Readers.{Readers}
 use Rattle.engine_spec.specs.State.{EngineState}
+use Rattle.wal_index.specs.Index.{Indexed, IndexedLog}
 use Rattle.store_spec.specs.Store.{KeptStop, StoreData, store_state}
 use Rattle.store_spec.specs.Standing.{IsLiveStore}
 use Rattle.store.specs.Halts.{KeptPages, images_in}
@@ -16,6 +17,13 @@ use Rattle.store.specs.declared.store.Halt.{Halt}
 abbrev pub stop_of : ℕ → KeptPages → Halt → KeptStop
 stop_of page_size pages halt = record { log = halt.log; at = halt.at; images = images_in page_size pages.pages pages.bytes; size = halt.size }
 
+-- what the index holds, whatever room it has
+abbrev pub bare_log : IndexedLog → IndexedLog
+bare_log log = record { pages = log.pages; numbers = log.numbers; ends = log.ends; tails = log.tails; room = 0; seals = 0 }
+
+abbrev pub bare : Indexed → Indexed
+bare index = record { log1 = bare_log index.log1; log2 = bare_log index.log2; last = 1 }
+
 abbrev pub kept_of : {D W M : Type 0} → Store D W M → StoreData
 kept_of store = record {
   page_size = store.page_size;
@@ -23,7 +31,7 @@ kept_of store = record {
   size = store.size;
   limit = store.limit;
   pair = store.pair;
-  index = store.index;
+  index = bare store.index;
   state = store.state;
   history = store.commits.commits;
   stop = option_map (stop_of store.page_size store.spare) store.stop;
