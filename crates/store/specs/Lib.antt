@@ -1,3 +1,5 @@
 pub mod Commits
 pub mod Halts
 pub mod Kept
+pub mod Fetching
+pub mod Barring

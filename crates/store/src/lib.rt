@@ -1,6 +1,7 @@
 //! A store over a disk: commits in two logs that take turns, snapshots, and a checkpoint that never stops a writer.
 #![tactic(auto)]
 
+mod bar;
 mod ckpt;
 mod commits;
 mod fetch;
