@@ -18,9 +18,13 @@ use Rattle.engine_spec.specs.Written.{Writes}
 use Rattle.engine_spec.proofs.Laying.{laid-length}
 use Rattle.engine_spec.proofs.Conflicts.{contains_cases}
 use Rattle.engine_spec.proofs.WrittenSets.{writes_changed}
+use Rattle.engine_spec.specs.declared.pins.Pin.{Pin}
+use Rattle.engine_spec.specs.State.{EngineState}
+use Rattle.page_face.specs.declared.prepared.Prepared.{Prepared}
+use Rattle.page_face.specs.Prepared.{IsFit, change_in}
 use Rattle.log_commit.specs.Commit.{page_under, map_under, FitsMap}
 use Rattle.laying.specs.Order.{IsOrder, images_of, in_order, no_image, page_numbers}
-use Rattle.laying.specs.First.{put_first}
+use Rattle.laying.specs.First.{IsChangeOf, put_first}
 use Rattle.laying.proofs.Sets.{all_above, rest_rises}
 use Rattle.laying.proofs.Orders.{page_read, all_in_order, set_in_order}
 use Rattle.laying.proofs.Pages.{over, first_laid, other_laid}
@@ -216,3 +220,8 @@ whole_images changed order first s count whole from is =
     (omega arith, count)
     (all_in_order (λ (image : PageImage). (0 < image.page) × (length image.bytes ≡ s)) changed order
     (λ k d within. ((let low = from k d within in omega arith), whole k d within)) is.places)
+
+-- what a transaction hands in is a change of its images
+pub is_change : {M : Type 0} (state : EngineState) (pin : Pin) (prepared : Prepared M) → IsFit state pin prepared
+    → IsChangeOf prepared.mode prepared.tail prepared.changed (change_in prepared)
+is_change state pin prepared fit = record { is_mode = refl; is_tail = refl; is_changed = refl; fresh = fit.fresh; freed = fit.freed }

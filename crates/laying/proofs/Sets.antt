@@ -7,12 +7,13 @@ use Rattle.engine_spec.proofs.PageSets.{rises_far}
 use Rattle.engine_spec.proofs.Conflicts.{contains_cases, contains_more}
 use Rattle.engine_spec.proofs.WrittenSets.{pages_rise, pages_keep, pages_have, pages_cases}
 
--- what follows the first number of a rising list rises too, and is above it
+-- what follows the first number of a rising list rises too
 pub rest_rises : (first : ℕ) (numbers : List ℕ) → IsStrictlyIncreasing (first ∷ numbers) → IsStrictlyIncreasing numbers
 rest_rises first numbers rises k within =
     let step = rises (suc k) (omega arith) in
     rw (add-one k) (rw (add-one (suc k)) at step)
 
+-- with a number before them that is below the first, rising numbers rise
 pub rises_more : (first : ℕ) (pages : List ℕ) → (0 < length pages → first < get_or pages 0 0) → IsStrictlyIncreasing pages
     → IsStrictlyIncreasing (first ∷ pages)
 rises_more first pages below rises zero within = below (omega arith)
@@ -20,6 +21,7 @@ rises_more first pages below rises (suc k) within =
     let step = rises k (omega arith) in
     rw (add-one (suc k)) (rw (add-one k) at step)
 
+-- each number behind the first of a rising list is above it
 pub all_above : (first : ℕ) (numbers : List ℕ) (k : ℕ) → IsStrictlyIncreasing (first ∷ numbers) → k < length numbers → first < get_or numbers k 0
 all_above first numbers k rises within =
     let next : first < get_or numbers 0 0 = rises 0 (omega (arith, within)) in

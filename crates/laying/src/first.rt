@@ -18,8 +18,8 @@ ghost use Rattle.laying.specs.First.{IsChangeOf, put_first};
 use be_fields::get_u32;
 use engine_spec::{Mode, PageImage};
 
-/// Makes of page 1 of the newest map, which `first` has, page 1 of the map that a commit of these images makes. `size` is how many pages the
-/// map has. It takes no memory.
+/// Makes of page 1 of the newest map, which `first` has, page 1 of the map that a commit of these images makes. `tail` is whether the
+/// transaction changed page 1 from byte 100 on, `size` how many pages the map has. It takes no memory.
 pub fn lay_first(mode: Mode, tail: bool, changed: &[PageImage], size: u32, first: &mut [u8])
     requires room { 100 ≤ length first.old }
     requires different { AreDifferent (page_numbers changed.now) }

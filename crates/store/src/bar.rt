@@ -27,6 +27,7 @@ impl<D: Disk, W: Salts, M: Means> Store<D, W, M> {
         requires wrote { prepared.now.wrote ≡ true }
         requires least { other_since_of (kept_of self.now) ≤ prepared.now.snap }
         requires most { prepared.now.snap ≤ length (kept_of self.now).history }
+        requires few { length prepared.now.changed < 2 ^ 32 }
         requires fresh { prepared.now.fresh ≡ [] }
         requires freed { prepared.now.freed ≡ [] }
         ensures { MatchOption result (IsClear (state_of D.DiskTells self.now readers.now) (submitted prepared.now who))
