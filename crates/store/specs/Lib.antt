@@ -3,3 +3,4 @@ pub mod Halts
 pub mod Kept
 pub mod Fetching
 pub mod Barring
+pub mod Planning

@@ -6,9 +6,11 @@ mod ckpt;
 mod commits;
 mod fetch;
 mod kept_pages;
+mod plan;
 mod room;
 mod store;
 
 pub use commits::{Commits, Wrote};
 pub use kept_pages::KeptPages;
+pub use plan::Plan;
 pub use store::{Halt, Store};
