@@ -2,3 +2,4 @@ pub mod Reading
 pub mod Copied
 pub mod Taken
 pub mod Standing
+pub mod CheckpointLaws
