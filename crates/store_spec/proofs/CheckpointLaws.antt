@@ -56,7 +56,7 @@ module _ (kept : StoreData) (readers : Readers) (state : LogState) where
       (goes_opened opening told step (λ here is. goes told here refl is) h)
 
   -- the newest map names the page size
-  named_now : (opening : Opening) (told : History) → kept.state.done ≡ false → IsOpenedAt opening kept (Some told)
+  pub named_now : (opening : Opening) (told : History) → kept.state.done ≡ false → IsOpenedAt opening kept (Some told)
       → named_size (reads told).main (other_read kept.pair (reads told)) (current_read kept.pair (reads told)) ≡ kept.page_size
   named_now opening told unfinished (since, is, on) =
       subst (λ (files : Files). named_size files.main (other_read kept.pair files) (current_read kept.pair files) ≡ kept.page_size)

@@ -3,3 +3,4 @@ pub mod Copied
 pub mod Taken
 pub mod Standing
 pub mod CheckpointLaws
+pub mod PinLaws
