@@ -206,3 +206,104 @@ module _ (kept : StoreData) (state : LogState) where
           (from.fronts n (front_back n front));
       older = λ some. absurd (none_older readers whole free some);
     }
+
+module _ (kept : StoreData) (readers : Readers) (pins : List Pin) (state : LogState) where
+  -- The maps go on to name the page size.
+  named_step : (old new : Option History) → IsWholeStore kept → Taken kept readers state old new → AreNamed old kept readers → AreNamed new (stepped kept state) readers
+  named_step old new whole (Stays is same) named =
+      subst (λ (s : LogState). AreNamed new (stepped kept s) readers) (sym is) (subst (λ (t : Option History). AreNamed t kept readers) (sym same) named)
+  named_step None new whole (Goes step same unfinished free current goes) named =
+      subst (λ (t : Option History). AreNamed t (stepped kept state) readers) (sym same) (record { fronts = tt; older = λ some. tt })
+  named_step (Some told) new whole (Goes step same unfinished free current goes) named =
+      subst (λ (t : Option History). AreNamed t (stepped kept state) readers) (sym same)
+      (named_goes kept state told step (goes told told refl refl) readers whole free named)
+
+  from_step : (sound : PageMap → Type 0) (leads : PageMap → List (List ℕ) → PageMap → Type 0) (first : PageMap) (old new : Option History) → IsWholeStore kept
+      → Taken kept readers state old new → AreNamed old kept readers → StandsFrom sound leads first old kept readers → StandsFrom sound leads first new (stepped kept state) readers
+  from_step sound leads first old new whole (Stays is same) named from =
+      subst (λ (s : LogState). StandsFrom sound leads first new (stepped kept s) readers) (sym is)
+      (subst (λ (t : Option History). StandsFrom sound leads first t kept readers) (sym same) from)
+  from_step sound leads first None new whole (Goes step same unfinished free current goes) named from =
+      subst (λ (t : Option History). StandsFrom sound leads first t (stepped kept state) readers) (sym same)
+      (record { snaps = from.snaps; fronts = tt; older = λ some. tt })
+  from_step sound leads first (Some told) new whole (Goes step same unfinished free current goes) named from =
+      subst (λ (t : Option History). StandsFrom sound leads first t (stepped kept state) readers) (sym same)
+      (from_goes kept state told step (goes told told refl refl) sound leads first readers whole free named from)
+
+  -- one of the pins
+  pin_step : (old new : Option History) (place : ℕ) (default : Pin) → IsLiveStore old kept readers pins → AreNamed old kept readers → place < length pins → Taken kept readers state old new
+      → PinHolds new (stepped kept state) (get_or pins place default)
+  pin_step old new place default live named within (Stays is same) =
+      subst (λ (s : LogState). PinHolds new (stepped kept s) (get_or pins place default)) (sym is)
+      (subst (λ (t : Option History). PinHolds t kept (get_or pins place default)) (sym same) (live.hold place default within))
+  pin_step None new place default live named within (Goes step same unfinished free current goes) =
+      subst (λ (t : Option History). PinHolds t (stepped kept state) (get_or pins place default)) (sym same)
+      (pin_untold kept state (get_or pins place default) (live.hold place default within))
+  pin_step (Some told) new place default live named within (Goes step same unfinished free current goes) =
+      let s : StepsOn kept state told step = goes told told refl refl in
+      subst (λ (t : Option History). PinHolds t (stepped kept state) (get_or pins place default)) (sym same)
+      (pin_goes kept state (get_or pins place default) told (further step told)
+      (pin_same kept state told step s readers pins place default live.whole free named live.counted within (live.hold place default within))
+      (newest_same kept state told step s (named_now kept readers state live.opening told unfinished live.opened))
+      (live.hold place default within))
+
+  told_step : (old new : Option History) (place : ℕ) (default : Pin) → IsLiveStore old kept readers pins → AreNamed old kept readers → place < length pins → Taken kept readers state old new
+      → pin_told (stepped kept state) new (get_or pins place default) ≡ pin_told kept old (get_or pins place default)
+  told_step old new place default live named within (Stays is same) = ap (λ (t : Option History). pin_told kept t (get_or pins place default)) same
+  told_step None new place default live named within (Goes step same unfinished free current goes) =
+      ap (λ (t : Option History). pin_told kept t (get_or pins place default)) same
+  told_step (Some told) new place default live named within (Goes step same unfinished free current goes) =
+      ap (λ (t : Option History). pin_told kept t (get_or pins place default)) same
+      ∙ ap (λ (pages : PageMap). Some pages)
+      (pin_same kept state told step (goes told told refl refl) readers pins place default live.whole free named live.counted within (live.hold place default within))
+
+  readable_step : (old new : Option History) → IsReadable kept old → Taken kept readers state old new → IsReadable (stepped kept state) new
+  readable_step old new readable (Stays is same) =
+      subst (λ (s : LogState). IsReadable (stepped kept s) new) (sym is) (subst (λ (t : Option History). IsReadable kept t) (sym same) readable)
+  readable_step None new readable (Goes step same unfinished free current goes) =
+      subst (λ (t : Option History). IsReadable (stepped kept state) t) (sym same) (record { log1 = tt; log2 = tt; main = tt })
+  readable_step (Some told) new readable (Goes step same unfinished free current goes) =
+      subst (λ (t : Option History). IsReadable (stepped kept state) t) (sym same) (readable_goes kept state told step (goes told told refl refl) readable)
+
+  current_step : (old new : Option History) → Taken kept readers state old new → state.current ≡ kept.state.current
+  current_step old new (Stays is same) = ap (λ (s : LogState). s.current) is
+  current_step old new (Goes step same unfinished free current goes) = current
+
+-- Each pin's map is the same, and the pin holds.
+pub step_pin : (kept : StoreData) (readers : Readers) (pins : List Pin) (result : Result Ckpt Failed) (state : LogState) (old new : Option History) (place : ℕ) (default : Pin)
+    → IsLiveStore old kept readers pins → AreNamed old kept readers → HasTakenStep kept readers result state old new → place < length pins
+    → (pin_told (stepped kept state) new (get_or pins place default) ≡ pin_told kept old (get_or pins place default)) × PinHolds new (stepped kept state) (get_or pins place default)
+step_pin kept readers pins result state old new place default live named has within =
+    let took : Taken kept readers state old new = taken kept readers pins result state old new live has in (
+      told_step kept readers pins state old new place default live named within took,
+      pin_step kept readers pins state old new place default live named within took,
+    )
+
+-- The store is live with these pins.
+pub step_live : (kept : StoreData) (readers : Readers) (pins : List Pin) (result : Result Ckpt Failed) (state : LogState) (old new : Option History)
+    → IsLiveStore old kept readers pins → AreNamed old kept readers → HasTakenStep kept readers result state old new → IsLiveStore new (stepped kept state) readers pins
+step_live kept readers pins result state old new live named has =
+    let took : Taken kept readers state old new = taken kept readers pins result state old new live has in
+    record {
+      whole = whole_goes kept state live.whole (current_step kept readers pins state old new took);
+      readable = readable_step kept readers pins state old new live.readable took;
+      sizes = subst (λ (pages : Option PageMap). IfSome pages (λ pages. HasSizes pages kept.size kept.page_size)) (sym (step_newest kept readers pins result state old new live has)) live.sizes;
+      hold = λ place default within. pin_step kept readers pins state old new place default live named within took;
+      counted = live.counted;
+      opening = live.opening;
+      opened = step_opened kept readers pins result state old new live.opening live has live.opened;
+    }
+
+-- Its maps name the page size.
+pub step_named : (kept : StoreData) (readers : Readers) (pins : List Pin) (result : Result Ckpt Failed) (state : LogState) (old new : Option History)
+    → IsLiveStore old kept readers pins → AreNamed old kept readers → HasTakenStep kept readers result state old new → AreNamed new (stepped kept state) readers
+step_named kept readers pins result state old new live named has =
+    named_step kept readers pins state old new live.whole (taken kept readers pins result state old new live has) named
+
+-- It stands for the same runs.
+pub step_from : (sound : PageMap → Type 0) (leads : PageMap → List (List ℕ) → PageMap → Type 0) (first : PageMap)
+    (kept : StoreData) (readers : Readers) (pins : List Pin) (result : Result Ckpt Failed) (state : LogState) (old new : Option History)
+    → IsLiveStore old kept readers pins → AreNamed old kept readers → HasTakenStep kept readers result state old new
+    → StandsFrom sound leads first old kept readers → StandsFrom sound leads first new (stepped kept state) readers
+step_from sound leads first kept readers pins result state old new live named has from =
+    from_step kept readers pins state sound leads first old new live.whole (taken kept readers pins result state old new live has) named from
