@@ -4,3 +4,4 @@ pub mod Taken
 pub mod Standing
 pub mod CheckpointLaws
 pub mod PinLaws
+pub mod FetchLaws

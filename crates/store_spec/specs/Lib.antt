@@ -3,3 +3,4 @@ pub mod Pins
 pub mod Standing
 pub mod Steps
 pub mod Named
+pub mod Reading
