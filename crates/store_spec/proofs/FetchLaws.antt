@@ -9,7 +9,7 @@ use Rattle.disk_face.specs.declared.step.Step.{Step}
 use Rattle.disk_face.specs.Files.{Files, content}
 use Rattle.disk_face.specs.Steps.{History, reads}
 use Rattle.disk_face.specs.Told.{IsInside, IsRead}
-use Rattle.page_spec.specs.PageMap.{PageMap, page_at}
+use Rattle.page_spec.specs.PageMap.{PageMap, page_at, Agree}
 use Rattle.log_spec.specs.LogHeader.{LogFields}
 use Rattle.log_spec.specs.Accept.{Frame, AreThere, AreValidFrames, page_number, page_numbers}
 use Rattle.log_spec.specs.Frames.{frame_place, frame_size}
@@ -18,10 +18,11 @@ use Rattle.crash_spec.specs.Recovered.{main_page, page_after_frames, overlaid}
 use Rattle.crash_spec.specs.Store.{named_size}
 use Rattle.crash_spec.proofs.Rebased.{rebased_reads}
 use Rattle.engine_spec.specs.declared.commits.Mode.TheVariants.{Concurrent}
+use Rattle.engine_spec.specs.declared.commits.Commit.{Commit}
 use Rattle.engine_spec.specs.declared.pins.Pin.{Pin}
 use Rattle.engine_spec.specs.declared.pins.Readers.{Readers}
 use Rattle.engine_spec.specs.Good.{HasSizes}
-use Rattle.engine_spec.specs.TwoLogs.{holders, frames_of}
+use Rattle.engine_spec.specs.TwoLogs.{holders, readers_of, frames_of}
 use Rattle.wal_frames.specs.Found.{log_file}
 use Rattle.wal_index.specs.Index.{log_in}
 use Rattle.wal_index.specs.Frames.{IsFrameOf, IsLastFrame, FindsLast}
@@ -32,7 +33,7 @@ use Rattle.store_spec.specs.Store.{StoreData, frames_read, current_read, other_r
 use Rattle.store_spec.specs.Pins.{PinHolds, IsFront, IsOfCurrent, IsOfOther, AreCounted, mark_at, part_of}
 use Rattle.store_spec.specs.Standing.{IsWholeStore, IsReadable, IsLiveStore, AreThereBoth, StandsOn}
 use Rattle.store_spec.specs.Named.{AreNamed}
-use Rattle.store_spec.specs.Reading.{current_pages, other_pages, FindsBelow, FindsOver, FindsPage, IsFetched, named_by_pin, PinIsNamed}
+use Rattle.store_spec.specs.Reading.{current_pages, other_pages, FindsBelow, FindsOver, FindsIn, FindsPage, IsFetched, named_by_pin, PinIsNamed}
 use Rattle.store_spec.proofs.Reading.{no_frame, last_frame, none_of_all, last_of_all, page_of_overlaid, length-frames_in}
 use Rattle.store_spec.proofs.Taken.{counted_log, other_which}
 use Rattle.store_spec.proofs.PinLaws.{is_counted, holders_are, pin_current, pin_other}
@@ -154,3 +155,175 @@ module _ (told : History) (kept : StoreData) (one : IsReadLog kept kept.pair.cur
       by (Some (log, frame)) (is, last) fetched =
           last_here kept (other_number kept.pair.current) told other page mark frame bytes main last
           (subst (λ (n : ℕ). (fs : List Frame) → frame ≤ length fs → HasFrames (Some told) (log_file n) (log_of kept.pair n).header fs → IsPageOf (Some told) fs frame bytes) is fetched)
+
+-- the bytes that were fetched are the page of a pin's map
+pin_fetched : (told : History) (kept : StoreData) (pin : Pin) (page : ℕ) (found : Option (ℕ × ℕ)) (bytes : List ℕ)
+    → IsReadLog kept kept.pair.current (reads told) → IsReadLog kept (other_number kept.pair.current) (reads told)
+    → PinIsNamed (Some told) kept pin → 1 ≤ page → page ≤ length (pin_map_in kept.pair pin (reads told)) → FindsPage kept pin page found → IsFetched (Some told) kept page found bytes
+    → bytes ≡ page_at (pin_map_in kept.pair pin (reads told)) page
+pin_fetched told kept pin page found bytes one other named from within finds fetched = by (pin.generation == (current_header kept.pair).generation) named within finds
+  where
+    by : (b : Bool)
+        → (if b then named_size (reads told).main (other_read kept.pair (reads told)) (take pin.mark (current_read kept.pair (reads told)))
+          else named_size (reads told).main [] (take pin.mark (other_read kept.pair (reads told)))) ≡ kept.page_size
+        → page ≤ length (if b then map_over kept.pair pin.mark (reads told) else map_below kept.pair pin.mark (reads told))
+        → FindsIn kept pin.mark page found b
+        → bytes ≡ page_at (if b then map_over kept.pair pin.mark (reads told) else map_below kept.pair pin.mark (reads told)) page
+    by true named within finds = over_fetched told kept one other pin.mark page from bytes found named within finds fetched
+    by false named within finds = below_fetched told kept one other pin.mark page from bytes found named within finds fetched
+
+-- What was read where a pin's map has the page is the page.
+pub fetched : (told : Option History) (kept : StoreData) (readers : Readers) (pins : List Pin) (pin : Pin) (page : ℕ) (found : Option (ℕ × ℕ)) (bytes : List ℕ)
+    → IsLiveStore told kept readers pins → PinHolds told kept pin → PinIsNamed told kept pin → 1 ≤ page → page ≤ pin.size → FindsPage kept pin page found
+    → IsFetched told kept page found bytes → IfSome (pin_told kept told pin) (λ pages. bytes ≡ page_at pages page)
+fetched None kept readers pins pin page found bytes live holds named from within finds has = tt
+fetched (Some told) kept readers pins pin page found bytes live holds named from within finds has =
+    let both = both_read told kept readers pins live in
+    let sizes : HasSizes (pin_map_in kept.pair pin (reads told)) pin.size kept.page_size = holds.sizes in
+    pin_fetched told kept pin page found bytes both.0 both.1 named from (omega (arith, within, sizes.count)) finds has
+
+-- each pin of a live store names the page size
+pub pin_named : (told : Option History) (kept : StoreData) (readers : Readers) (pins : List Pin) (place : ℕ) (default : Pin) → IsLiveStore told kept readers pins
+    → AreNamed told kept readers → place < length pins → PinIsNamed told kept (get_or pins place default)
+pin_named None kept readers pins place default live named within = tt
+pin_named (Some told) kept readers pins place default live named within = by (live.hold place default within).place
+  where
+    pin : Pin
+    pin = get_or pins place default
+
+    over : ℕ → ℕ
+    over mark = named_size (reads told).main (other_read kept.pair (reads told)) (take mark (current_read kept.pair (reads told)))
+
+    below : ℕ → ℕ
+    below mark = named_size (reads told).main [] (take mark (other_read kept.pair (reads told)))
+
+    by : IsOfCurrent kept (get_or pins place default) ⊎ IsOfOther kept (get_or pins place default)
+        → named_by_pin kept (get_or pins place default) (reads told) ≡ kept.page_size
+    by (inl of) =
+        ap (λ (b : Bool). if b then over pin.mark else below pin.mark) ((Decides-eqb pin.generation (current_header kept.pair).generation).1 of.generation)
+        ∙ ap over of.mark ∙ named.fronts pin.n of.front
+    by (inr of) = apart (pin.generation == (current_header kept.pair).generation) (Decides-eqb pin.generation (current_header kept.pair).generation).0
+      where
+        some : 0 < holders (two_logs kept) readers
+        some =
+            let held : 0 < readers_of readers (part_of (other_number kept.pair.current)) =
+            is_counted readers pins (part_of (other_number kept.pair.current)) place default live.counted within of.lock in
+            omega (arith, held, holders_are kept readers live.whole)
+
+        apart : (b : Bool) → (b ≡ true → pin.generation ≡ (current_header kept.pair).generation) → (if b then over pin.mark else below pin.mark) ≡ kept.page_size
+        apart true same = absurd (omega (arith, same refl, of.generation))
+        apart false same = ap below of.mark ∙ named.older some pin.n of.front
+
+pub fetched_pin : (told : Option History) (kept : StoreData) (readers : Readers) (pins : List Pin) (place : ℕ) (default : Pin) (page : ℕ) (found : Option (ℕ × ℕ)) (bytes : List ℕ)
+    → IsLiveStore told kept readers pins → AreNamed told kept readers → place < length pins → 1 ≤ page → page ≤ (get_or pins place default).size
+    → FindsPage kept (get_or pins place default) page found → IsFetched told kept page found bytes
+    → IfSome (pin_told kept told (get_or pins place default)) (λ pages. bytes ≡ page_at pages page)
+fetched_pin told kept readers pins place default page found bytes live named within from inside finds has =
+    fetched told kept readers pins (get_or pins place default) page found bytes live (live.hold place default within)
+    (pin_named told kept readers pins place default live named within) from inside finds has
+
+-- The same of the newest map, with all frames of the current log.
+pub fetched_newest : (told : Option History) (kept : StoreData) (readers : Readers) (pins : List Pin) (page : ℕ) (found : Option (ℕ × ℕ)) (bytes : List ℕ)
+    → IsLiveStore told kept readers pins → AreNamed told kept readers → 1 ≤ page → page ≤ kept.size → FindsOver kept (length (current_pages kept)) page found
+    → IsFetched told kept page found bytes → IfSome (newest_told kept told) (λ pages. bytes ≡ page_at pages page)
+fetched_newest None kept readers pins page found bytes live named from within finds fetched = tt
+fetched_newest (Some told) kept readers pins page found bytes live named from within finds fetched =
+    let sizes : HasSizes (newest_in kept.pair (reads told)) kept.size kept.page_size = live.sizes in
+    over_fetched told kept both.0 both.1 (length (current_pages kept)) page from bytes found named_all
+    (omega (arith, within, sizes.count, ap (λ (pages : PageMap). length pages) same)) finds fetched
+    ∙ ap (λ (pages : PageMap). page_at pages page) same
+  where
+    both : IsReadLog kept kept.pair.current (reads told) × IsReadLog kept (other_number kept.pair.current) (reads told)
+    both = both_read told kept readers pins live
+
+    same : map_over kept.pair (length (current_pages kept)) (reads told) ≡ newest_in kept.pair (reads told)
+    same =
+        ap (λ (fs : List Frame). overlaid (reads told).main (other_read kept.pair (reads told)) fs)
+        (take_all (length (current_pages kept)) (current_read kept.pair (reads told)) (omega (arith, counted kept kept.pair.current told both.0 page)))
+
+    front : IsFront kept (length kept.history)
+    front = record { least = live.whole.index.are.since; most = omega arith; held = inr (inr refl) }
+
+    mark : mark_at kept.history (since_of kept) (length kept.history) ≡ length (current_pages kept)
+    mark =
+        ap (λ (commits : List Commit). length (frames_of (drop (since_of kept) commits))) (take_all (length kept.history) kept.history (omega arith))
+        ∙ sym (ap (λ (pages : List ℕ). length pages) live.whole.index.current.pages)
+
+    named_all : named_size (reads told).main (other_read kept.pair (reads told)) (take (length (current_pages kept)) (current_read kept.pair (reads told))) ≡ kept.page_size
+    named_all =
+        subst (λ (n : ℕ). named_size (reads told).main (other_read kept.pair (reads told)) (take n (current_read kept.pair (reads told))) ≡ kept.page_size) mark
+        (named.fronts (length kept.history) front)
+
+-- A frame that was found is one of its log, and lies inside the log's file.
+found_in : (told : Option History) (kept : StoreData) (log page mark frame : ℕ) → IsWholeStore kept → IsReadable kept told → (log ≡ 1) ⊎ (log ≡ 2)
+    → IsLastFrame (log_in kept.index log).pages page mark frame
+    → ((log ≡ 1) ⊎ (log ≡ 2)) × ((1 ≤ frame) × (frame ≤ (log_of kept.pair log).frames))
+    × IsInside told (log_file log) (frame_place (log_of kept.pair log).header (frame - 1)) (frame_size (log_of kept.pair log).header)
+found_in told kept log page mark frame whole readable which last = (which, (last.is.counted, within), inside which)
+  where
+    within : frame ≤ (log_of kept.pair log).frames
+    within = let there = last.is.there in omega (arith, there, (counted_log kept whole log which).counted)
+
+    inside : (log ≡ 1) ⊎ (log ≡ 2) → IsInside told (log_file log) (frame_place (log_of kept.pair log).header (frame - 1)) (frame_size (log_of kept.pair log).header)
+    inside which =
+        frame_inside told (log_file log) (log_of kept.pair log).header (log_of kept.pair log).frames frame last.is.counted within
+        (elim which [
+          | inl one ↦
+              subst (λ (n : ℕ). IsInside told (log_file n) (frame_place (log_of kept.pair n).header (log_of kept.pair n).frames) 0) (sym one) readable.log1
+          | inr two ↦
+              subst (λ (n : ℕ). IsInside told (log_file n) (frame_place (log_of kept.pair n).header (log_of kept.pair n).frames) 0) (sym two) readable.log2
+        ])
+
+abbrev pub IsReachedFrame : Option History → StoreData → (log frame : ℕ) → Type 0
+IsReachedFrame told kept log frame =
+    ((log ≡ 1) ⊎ (log ≡ 2)) × ((1 ≤ frame) × (frame ≤ (log_of kept.pair log).frames))
+    × IsInside told (log_file log) (frame_place (log_of kept.pair log).header (frame - 1)) (frame_size (log_of kept.pair log).header)
+
+pub over_reached : (told : Option History) (kept : StoreData) (mark page log frame : ℕ) → IsWholeStore kept → IsReadable kept told → FindsOver kept mark page (Some (log, frame))
+    → IsReachedFrame told kept log frame
+over_reached told kept mark page log frame whole readable (inl (is, last)) =
+    subst (λ (n : ℕ). IsReachedFrame told kept n frame) (sym is)
+    (found_in told kept kept.pair.current page mark frame whole readable whole.pair.which last)
+over_reached told kept mark page log frame whole readable (inr (none, is, last)) =
+    subst (λ (n : ℕ). IsReachedFrame told kept n frame) (sym is)
+    (found_in told kept (other_number kept.pair.current) page (length (other_pages kept)) frame whole readable (other_which kept whole) last)
+
+pub found_reached : (told : Option History) (kept : StoreData) (pin : Pin) (page log frame : ℕ) → IsWholeStore kept → IsReadable kept told → FindsPage kept pin page (Some (log, frame))
+    → IsReachedFrame told kept log frame
+found_reached told kept pin page log frame whole readable finds = by (pin.generation == (current_header kept.pair).generation) finds
+  where
+    by : (b : Bool) → FindsIn kept pin.mark page (Some (log, frame)) b → IsReachedFrame told kept log frame
+    by true finds = over_reached told kept pin.mark page log frame whole readable finds
+    by false (is, last) =
+        subst (λ (n : ℕ). IsReachedFrame told kept n frame) (sym is)
+        (found_in told kept (other_number kept.pair.current) page pin.mark frame whole readable (other_which kept whole) last)
+
+-- A page of Main up to the newest map's last one lies inside the file; and a pin's map has no page that the newest one hasn't.
+pub main_reached : (told : Option History) (kept : StoreData) (page : ℕ) → IsReadable kept told → 1 ≤ page → page ≤ kept.size → IsInside told Main ((page - 1) * kept.page_size) kept.page_size
+main_reached None kept page readable from within = tt
+main_reached (Some told) kept page readable from within =
+    let long : kept.size * kept.page_size + 0 ≤ length (reads told).main = readable.main in
+    omega (arith, long, up kept.page_size page kept.size from within)
+  where
+    up : (size page count : ℕ) → 1 ≤ page → page ≤ count → (page - 1) * size + size ≤ count * size
+    up size page count from within = below size (page - 1) count (omega arith)
+      where
+        below : (size before count : ℕ) → before + 1 ≤ count → before * size + size ≤ count * size
+        below size before count less = grind arith
+
+no_longer : (told : History) (kept : StoreData) (readers : Readers) (pins : List Pin) (pin : Pin) → IsLiveStore (Some told) kept readers pins → PinHolds (Some told) kept pin → pin.size ≤ kept.size
+no_longer told kept readers pins pin live holds =
+    let sizes : HasSizes (pin_map_in kept.pair pin (reads told)) pin.size kept.page_size = holds.sizes in
+    let newest : HasSizes (newest_in kept.pair (reads told)) kept.size kept.page_size = live.sizes in
+    let agree : Agree (pin_map_in kept.pair pin (reads told)) (newest_in kept.pair (reads told)) [] =
+    holds.agrees Concurrent [] (λ q held. absurd (nothing q held)) (λ plain. absurd cc) in
+    omega (arith, sizes.count, newest.count, agree.no_shorter)
+  where
+    nothing : (q : ℕ) → Contains [] q → ⊥
+    nothing q held = let less = held.1 in omega arith
+
+pub pin_reached : (told : Option History) (kept : StoreData) (readers : Readers) (pins : List Pin) (pin : Pin) (page : ℕ) → IsLiveStore told kept readers pins → PinHolds told kept pin
+    → 1 ≤ page → page ≤ pin.size → IsInside told Main ((page - 1) * kept.page_size) kept.page_size
+pin_reached None kept readers pins pin page live holds from within = tt
+pin_reached (Some told) kept readers pins pin page live holds from within =
+    main_reached (Some told) kept page live.readable from (omega (arith, within, no_longer told kept readers pins pin live holds))

@@ -33,13 +33,13 @@ FindsOver kept mark page (Some (log, frame)) =
     ((log ≡ kept.pair.current) × IsLastFrame (current_pages kept) page mark frame)
     ⊎ (FindsLast (current_pages kept) page mark None × (log ≡ other_number kept.pair.current) × IsLastFrame (other_pages kept) page (length (other_pages kept)) frame)
 
--- A pin reads the log that was current when it was taken, up to its mark, and what lies below.
+-- A pin reads the log that was current when it was taken, which may still be it, up to its mark, and what lies below.
+abbrev pub FindsIn : StoreData → (mark page : ℕ) → Option (ℕ × ℕ) → (of_current : Bool) → Type 0
+FindsIn kept mark page found true = FindsOver kept mark page found
+FindsIn kept mark page found false = FindsBelow kept mark page found
+
 abbrev pub FindsPage : StoreData → Pin → (page : ℕ) → Option (ℕ × ℕ) → Type 0
-FindsPage kept pin page found = Finds (pin.generation == (current_header kept.pair).generation)
-  where
-    Finds : Bool → Type 0
-    Finds true = FindsOver kept pin.mark page found
-    Finds false = FindsBelow kept pin.mark page found
+FindsPage kept pin page found = FindsIn kept pin.mark page found (pin.generation == (current_header kept.pair).generation)
 
 -- These bytes were read there: the page of that frame, or a page of Main.
 abbrev pub IsFetched : Option History → StoreData → (page : ℕ) → Option (ℕ × ℕ) → List ℕ → Type 0
