@@ -1,33 +1,29 @@
 -- A step of a checkpoint keeps the store, its maps and its pins, and at each moment of it a crash leaves one of its maps.
-use Rattle.std.proofs.Common.{◌≡◌, ◌≢◌, ◌∙◌, ◌⊎◌, inl, inr, ℕ, zero, suc, ◌+◌, ◌-◌, ◌*◌, ◌≤◌, ◌<◌, ◌==◌, if◌then◌else◌, Bool, true, false, List, [], ◌∷◌, ◌++◌, length, take, drop, refl, sym, ap, subst, arith, Option, Some, None, get_or}
-use Rattle.std.specs.Prelude.{MatchOption, All, Contains, Result, Ok, Err, IfOk, IfSome}
+use Rattle.std.proofs.Common.{◌≡◌, ◌≢◌, ◌∙◌, inl, inr, ℕ, false, List, ◌∷◌, refl, sym, ap, subst, arith, Option, Some, None}
+use Rattle.std.specs.Prelude.{MatchOption, Contains, Result, Ok, Err, IfOk}
 use Rattle.std.specs.Option.{option_map}
 use Rattle.std.proofs.lemmas.Bool.{true≢false}
 use Rattle.disk_face.specs.declared.Failed.{Failed}
 use Rattle.disk_face.specs.declared.step.Step.{Step}
 use Rattle.disk_face.specs.Files.{Files}
-use Rattle.disk_face.specs.Image.{MayLeave}
-use Rattle.disk_face.specs.Steps.{History, reads, after, further}
+use Rattle.disk_face.specs.Steps.{History, reads, further}
 use Rattle.page_spec.specs.PageMap.{PageMap}
-use Rattle.log_spec.specs.Accept.{Frame, last_size, page_numbers}
-use Rattle.crash_spec.specs.Known.{IsWithoutChance}
+use Rattle.log_spec.specs.Accept.{Frame, last_size}
 use Rattle.crash_spec.specs.Moments.{AtEachMoment}
-use Rattle.crash_spec.specs.Opening.{Opening, Since, grown, rebased}
+use Rattle.crash_spec.specs.Opening.{Opening, grown, rebased}
 use Rattle.crash_spec.specs.Passes.{Passes}
-use Rattle.crash_spec.specs.Recovered.{recovered}
 use Rattle.crash_spec.specs.Store.{StoreView, Holds, Leaves, named_size}
 use Rattle.crash_spec.proofs.Passing.{passes_still, passes_weaker}
 use Rattle.crash_spec.proofs.Rebased.{rebased_reads}
 use Rattle.engine_spec.specs.declared.pins.Pin.{Pin}
 use Rattle.engine_spec.specs.declared.pins.Ckpt.{Ckpt}
 use Rattle.engine_spec.specs.declared.pins.Readers.{Readers}
-use Rattle.engine_spec.specs.Leaves.{may_recover, if_told, kept_map, RecoversOneOf, LeavesOneOf, AtEach}
+use Rattle.engine_spec.specs.Leaves.{may_recover, kept_map, RecoversOneOf, LeavesOneOf, AtEach}
 use Rattle.engine_spec.specs.TwoLogs.{TwoLogs, Steps}
 use Rattle.wal_rules.specs.declared.state.LogState.{LogState}
 use Rattle.wal_rules.specs.Rules.{logs_with}
 use Rattle.wal_rules.specs.Indexing.{IsIndexOf}
 use Rattle.log_commit.specs.Commit.{map_under}
-use Rattle.checkpoint.specs.Steps.{pages_behind, DoesStep}
 use Rattle.checkpoint.proofs.Stepping.{is_step}
 use Rattle.store_spec.specs.Store.{StoreData, KeptStop, current_read, other_read, newest_in, view_of, two_logs, newest_told, stop_map, stop_told, store_state}
 use Rattle.store_spec.specs.Standing.{IsWholeStore, IsLiveStore, IsRunning, IsStoreOn, IsTornOn, StandsOn, IsOpenedAt}
@@ -83,7 +79,7 @@ module _ (kept : StoreData) (readers : Readers) (state : LogState) where
   stop_step stop (Some old) (Some new) same = ap (λ (m : Option PageMap). option_map (λ (pages : PageMap). map_under pages stop.images stop.size) m) same
 
   -- What is on its way is the map of the stop.
-  one_of : (opening : Opening) (here told : History) (pending : List Frame) (over : PageMap) (stop : Option KeptStop) → newest_in kept.pair (reads here) ≡ newest_in kept.pair (reads told)
+  pub one_of : (opening : Opening) (here told : History) (pending : List Frame) (over : PageMap) (stop : Option KeptStop) → newest_in kept.pair (reads here) ≡ newest_in kept.pair (reads told)
       → MatchOption stop (IsRunning opening kept pending here) (λ stop. over ≡ map_under (newest_in kept.pair (reads here)) stop.images stop.size)
       → last_size pending ≢ 0 → Contains (newest_in kept.pair (reads told) ∷ kept_map (option_map (stop_told kept (Some told)) stop)) over
   one_of opening here told pending over None same running some = absurd (some (ap (λ (frames : List Frame). last_size frames) running.none))

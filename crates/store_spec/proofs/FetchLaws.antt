@@ -1,16 +1,14 @@
 -- A page that was read where a pin's map has it is that page.
-use Rattle.std.proofs.Common.{◌≡◌, ◌∙◌, ◌⊎◌, inl, inr, ℕ, zero, suc, ◌+◌, ◌-◌, ◌*◌, ◌≤◌, ◌<◌, ◌==◌, if◌then◌else◌, Bool, true, false, List, [], ◌∷◌, length, take, drop, refl, sym, ap, subst, arith, mul-le-mul_right, Option, Some, None, get_or}
-use Rattle.std.specs.Prelude.{All, Contains, IfSome}
-use Rattle.std.proofs.lemmas.Bool.{true≢false}
+use Rattle.std.proofs.Common.{◌≡◌, ◌∙◌, ◌⊎◌, inl, inr, ℕ, ◌+◌, ◌-◌, ◌*◌, ◌≤◌, ◌<◌, ◌==◌, if◌then◌else◌, Bool, true, false, List, [], length, take, drop, refl, sym, ap, subst, arith, Option, Some, None, get_or}
+use Rattle.std.specs.Prelude.{Contains, IfSome}
 use Rattle.std.proofs.lemmas.Bool.Decides.{Decides-eqb}
 use Rattle.std.proofs.lemmas.List.{length-map, take_all}
-use Rattle.disk_face.specs.declared.disk.File.TheVariants.{Main, Log1, Log2}
+use Rattle.disk_face.specs.declared.disk.File.TheVariants.{Main}
 use Rattle.disk_face.specs.declared.step.Step.{Step}
 use Rattle.disk_face.specs.Files.{Files, content}
 use Rattle.disk_face.specs.Steps.{History, reads}
-use Rattle.disk_face.specs.Told.{IsInside, IsRead}
+use Rattle.disk_face.specs.Told.{IsInside}
 use Rattle.page_spec.specs.PageMap.{PageMap, page_at, Agree}
-use Rattle.log_spec.specs.LogHeader.{LogFields}
 use Rattle.log_spec.specs.Accept.{Frame, AreThere, AreValidFrames, page_number, page_numbers}
 use Rattle.log_spec.specs.Frames.{frame_place, frame_size}
 use Rattle.crash_spec.specs.Opening.{grown, rebased}
@@ -25,18 +23,18 @@ use Rattle.engine_spec.specs.Good.{HasSizes}
 use Rattle.engine_spec.specs.TwoLogs.{holders, readers_of, frames_of}
 use Rattle.wal_frames.specs.Found.{log_file}
 use Rattle.wal_index.specs.Index.{log_in}
-use Rattle.wal_index.specs.Frames.{IsFrameOf, IsLastFrame, FindsLast}
+use Rattle.wal_index.specs.Frames.{IsFrameOf, IsLastFrame}
 use Rattle.log_pair.specs.Pair.{log_of, other_number, current_header}
 use Rattle.log_pair.specs.Appending.{HasFrames, IsPageOf}
 use Rattle.checkpoint.proofs.Stepping.{frame_inside}
 use Rattle.store_spec.specs.Store.{StoreData, frames_read, current_read, other_read, newest_in, map_over, map_below, pin_map_in, since_of, two_logs, newest_told, pin_told}
-use Rattle.store_spec.specs.Pins.{PinHolds, IsFront, IsOfCurrent, IsOfOther, AreCounted, mark_at, part_of}
+use Rattle.store_spec.specs.Pins.{PinHolds, IsFront, IsOfCurrent, IsOfOther, mark_at, part_of}
 use Rattle.store_spec.specs.Standing.{IsWholeStore, IsReadable, IsLiveStore, AreThereBoth, StandsOn}
 use Rattle.store_spec.specs.Named.{AreNamed}
 use Rattle.store_spec.specs.Reading.{current_pages, other_pages, FindsBelow, FindsOver, FindsIn, FindsPage, IsFetched, named_by_pin, PinIsNamed}
-use Rattle.store_spec.proofs.Reading.{no_frame, last_frame, none_of_all, last_of_all, page_of_overlaid, length-frames_in}
+use Rattle.store_spec.proofs.Reading.{no_frame, last_frame, page_of_overlaid}
 use Rattle.store_spec.proofs.Taken.{counted_log, other_which}
-use Rattle.store_spec.proofs.PinLaws.{is_counted, holders_are, pin_current, pin_other}
+use Rattle.store_spec.proofs.PinLaws.{is_counted, holders_are}
 
 -- what is known of a log by what reads give
 record IsReadLog (kept : StoreData) (log : ℕ) (files : Files) : Type 0 where
@@ -165,7 +163,7 @@ pin_fetched told kept pin page found bytes one other named from within finds fet
   where
     by : (b : Bool)
         → (if b then named_size (reads told).main (other_read kept.pair (reads told)) (take pin.mark (current_read kept.pair (reads told)))
-          else named_size (reads told).main [] (take pin.mark (other_read kept.pair (reads told)))) ≡ kept.page_size
+        else named_size (reads told).main [] (take pin.mark (other_read kept.pair (reads told)))) ≡ kept.page_size
         → page ≤ length (if b then map_over kept.pair pin.mark (reads told) else map_below kept.pair pin.mark (reads told))
         → FindsIn kept pin.mark page found b
         → bytes ≡ page_at (if b then map_over kept.pair pin.mark (reads told) else map_below kept.pair pin.mark (reads told)) page

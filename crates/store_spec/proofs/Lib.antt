@@ -5,3 +5,4 @@ pub mod Standing
 pub mod CheckpointLaws
 pub mod PinLaws
 pub mod FetchLaws
+pub mod MayStep

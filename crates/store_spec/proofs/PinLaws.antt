@@ -1,35 +1,31 @@
 -- A step of a checkpoint keeps the pins, and the run for which a store stands.
-use Rattle.std.proofs.Common.{◌≡◌, ◌≢◌, ◌∙◌, ◌⊎◌, inl, inr, ℕ, zero, suc, ◌+◌, ◌-◌, ◌*◌, ◌≤◌, ◌<◌, ◌==◌, if◌then◌else◌, Bool, true, false, List, [], ◌∷◌, ◌++◌, length, take, drop, refl, sym, ap, subst, arith, Option, Some, None, get_or}
-use Rattle.std.specs.Prelude.{All, Contains, Result, IfSome}
+use Rattle.std.proofs.Common.{◌≡◌, ◌∙◌, ◌⊎◌, inl, inr, ℕ, zero, suc, ◌+◌, ◌*◌, ◌≤◌, ◌<◌, ◌==◌, if◌then◌else◌, Bool, true, false, List, [], ◌∷◌, length, take, refl, sym, ap, subst, arith, Option, Some, None, get_or}
+use Rattle.std.specs.Prelude.{Result, IfSome}
 use Rattle.std.proofs.lemmas.Bool.{true≢false}
 use Rattle.std.proofs.lemmas.Bool.Decides.{Decides-eqb}
 use Rattle.disk_face.specs.declared.Failed.{Failed}
-use Rattle.disk_face.specs.declared.disk.File.TheVariants.{Main, Log1, Log2}
+use Rattle.disk_face.specs.declared.disk.File.TheVariants.{Log1, Log2}
 use Rattle.disk_face.specs.declared.step.Step.{Step}
-use Rattle.disk_face.specs.Faults.{last_count}
-use Rattle.disk_face.specs.Files.{Files, content}
-use Rattle.disk_face.specs.Steps.{History, reads, after, further}
+use Rattle.disk_face.specs.Files.{Files}
+use Rattle.disk_face.specs.Steps.{History, reads, further}
 use Rattle.page_spec.specs.PageMap.{PageMap}
-use Rattle.log_spec.specs.Accept.{Frame}
 use Rattle.log_spec.specs.Frames.{frame_place}
 use Rattle.crash_spec.specs.Store.{named_size}
 use Rattle.crash_spec.proofs.Elsewhere.{content_elsewhere}
-use Rattle.engine_spec.specs.declared.commits.Mode.{Mode}
-use Rattle.engine_spec.specs.declared.commits.Mode.TheVariants.{Plain}
 use Rattle.engine_spec.specs.declared.pins.Ckpt.{Ckpt}
 use Rattle.engine_spec.specs.declared.pins.Lock.{Lock}
 use Rattle.engine_spec.specs.declared.pins.Lock.TheVariants.{Part1, Part1Full2, Part2, Part2Full1}
 use Rattle.engine_spec.specs.declared.pins.Pin.{Pin}
 use Rattle.engine_spec.specs.declared.pins.Readers.{Readers}
 use Rattle.engine_spec.specs.Good.{HasSizes, MayLayOn}
-use Rattle.engine_spec.specs.History.{NoConflict, statements_of}
+use Rattle.engine_spec.specs.History.{statements_of}
 use Rattle.engine_spec.specs.TwoLogs.{readers_of, holders}
 use Rattle.wal_rules.specs.declared.state.LogState.{LogState}
 use Rattle.log_pair.specs.Pair.{other_number, current_header}
 use Rattle.checkpoint.specs.Steps.{readers_behind}
-use Rattle.store_spec.specs.Store.{StoreData, current_read, other_read, newest_in, map_over, map_below, pin_map_in, since_of, other_since_of, two_logs, newest_told, pin_told}
+use Rattle.store_spec.specs.Store.{StoreData, current_read, other_read, newest_in, map_over, map_below, pin_map_in, since_of, two_logs, pin_told}
 use Rattle.store_spec.specs.Pins.{PinHolds, IsFront, IsOlderFront, IsOfCurrent, IsOfOther, AreCounted, mark_at, part_of, pins_with, same_lock}
-use Rattle.store_spec.specs.Standing.{IsWholeStore, IsReadable, IsCountedLog, IsLiveStore, IsOpenedAt, StandsFrom}
+use Rattle.store_spec.specs.Standing.{IsWholeStore, IsReadable, IsCountedLog, IsLiveStore, StandsFrom}
 use Rattle.store_spec.specs.Steps.{HasTakenStep, stepped}
 use Rattle.store_spec.specs.Named.{AreNamed}
 use Rattle.store_spec.proofs.Taken.{Taken, Stays, Goes, taken}
