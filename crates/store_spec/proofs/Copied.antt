@@ -1,5 +1,5 @@
 -- A page that the other log holds is written to Main, a write of it is refused, or Main is synced: what that leaves of what stands on the logs.
-use Rattle.std.proofs.Common.{◌≡◌, ◌≢◌, ◌∙◌, ◌⊎◌, inl, inr, ℕ, zero, suc, ◌+◌, ◌-◌, ◌*◌, ◌≤◌, ◌<◌, ◌==◌, if◌then◌else◌, Bool, true, false, List, [], ◌∷◌, length, take, drop, refl, sym, ap, subst, arith}
+use Rattle.std.proofs.Common.{◌≡◌, ◌≢◌, ◌∙◌, ◌⊎◌, inl, inr, ℕ, suc, ◌-◌, ◌*◌, ◌≤◌, ◌==◌, if◌then◌else◌, Bool, true, false, List, [], ◌∷◌, length, take, drop, refl, sym, ap, subst, arith}
 use Rattle.std.specs.Prelude.{Contains}
 use Rattle.std.proofs.lemmas.Bool.{cases_lt, true≢false}
 use Rattle.std.proofs.lemmas.Bool.Decides.{Decides-eqb}
@@ -23,7 +23,6 @@ use Rattle.crash_spec.proofs.Overlaid.{overlaid_outside, firsts_outside}
 use Rattle.crash_spec.proofs.Overwritten.{overwritten-length}
 use Rattle.wal_index.specs.Frames.{IsNextPage}
 use Rattle.wal_rules.specs.declared.state.LogState.{LogState}
-use Rattle.log_pair.specs.Pair.{log_of, other_number, current_file, current_header}
 use Rattle.checkpoint.specs.Steps.{page_piece}
 use Rattle.store_spec.specs.Store.{StoreData, other_read, view_of}
 use Rattle.store_spec.specs.Standing.{AreCopied}

@@ -7,3 +7,7 @@ pub mod Copied
 pub mod Taken
 pub mod Standing
 pub mod Stepping
+pub mod CheckpointLaws
+pub mod PinLaws
+pub mod FetchLaws
+pub mod MayStep

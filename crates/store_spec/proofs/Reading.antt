@@ -1,16 +1,16 @@
 -- The frames of a log by their count, and the pages of an overlaid map by its last frames.
-use Rattle.std.proofs.Common.{◌≡◌, ◌∙◌, ℕ, zero, suc, ◌+◌, ◌-◌, ◌≤◌, ◌<◌, ◌==◌, if◌then◌else◌, Bool, true, false, List, [], ◌∷◌, ◌++◌, length, take, drop, refl, sym, ap, subst, arith, Option, Some, None, slice_index}
+use Rattle.std.proofs.Common.{◌≡◌, ◌∙◌, ℕ, zero, suc, ◌-◌, ◌≤◌, ◌<◌, ◌==◌, if◌then◌else◌, Bool, true, false, List, [], ◌∷◌, length, take, drop, refl, sym, ap, subst, arith, Some, slice_index}
 use Rattle.std.specs.Prelude.{IfSome, slice_get}
 use Rattle.std.specs.List.{concat}
-use Rattle.std.proofs.lemmas.List.{take-take, drop-take, take_at, drop_at, take_all}
+use Rattle.std.proofs.lemmas.List.{take_all}
 use Rattle.std.proofs.lemmas.Bool.Decides.{Decides-eqb}
 use Rattle.disk_face.specs.declared.disk.File.{File}
-use Rattle.disk_face.specs.Files.{Files, content}
+use Rattle.disk_face.specs.Files.{content}
 use Rattle.disk_face.specs.Steps.{History, reads}
 use Rattle.page_spec.specs.PageMap.{page_at}
 use Rattle.log_spec.specs.Checksum.{Sum}
 use Rattle.log_spec.specs.LogHeader.{LogFields, header_size}
-use Rattle.log_spec.specs.Accept.{Frame, AreThere, AreValidFrames, sum_after, page_number, page_of, page_numbers}
+use Rattle.log_spec.specs.Accept.{Frame, AreValidFrames, sum_after, page_number, page_of, page_numbers}
 use Rattle.log_spec.specs.Frames.{frame_size}
 use Rattle.crash_spec.specs.Opening.{Opening}
 use Rattle.crash_spec.specs.Logs.{IsOnDisk}
@@ -130,8 +130,8 @@ last_frame told frames page mark (suc place) bytes below last read =
     let marked : suc place ≤ mark = last.marked in
     last_at frames page mark place bytes below (omega arith) (omega arith) (sym (ap (slice_index (page_numbers frames)) (one_back place)) ∙ last.is.page_is)
     (λ other above lower inside same.
-      let no : suc other ≤ suc place = last.last (suc other) (omega arith) (frame_of (page_numbers frames) page other inside same) in
-      omega (arith, no, above))
+    let no : suc other ≤ suc place = last.last (suc other) (omega arith) (frame_of (page_numbers frames) page other inside same) in
+    omega (arith, no, above))
     (subst (λ (n : ℕ). IfSome (slice_get frames n) (λ frame. bytes ≡ page_of frame)) (one_back place) read)
 
 -- the same of all frames

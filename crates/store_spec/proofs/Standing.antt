@@ -1,19 +1,19 @@
 -- A store stands on its disk after a step of a checkpoint as before it.
-use Rattle.std.proofs.Common.{◌≡◌, ◌∙◌, ◌⊎◌, inl, inr, ℕ, zero, suc, ◌+◌, ◌-◌, ◌*◌, ◌≤◌, ◌<◌, ◌==◌, if◌then◌else◌, Bool, true, false, List, [], ◌∷◌, ◌++◌, length, take, drop, refl, sym, ap, subst, arith, Option, Some, None}
-use Rattle.std.specs.Prelude.{MatchOption, All}
+use Rattle.std.proofs.Common.{◌≡◌, ◌∙◌, inl, inr, ℕ, ◌≤◌, ◌==◌, if◌then◌else◌, Bool, true, false, List, [], ◌++◌, length, take, drop, sym, ap, subst, Option, Some, None}
+use Rattle.std.specs.Prelude.{MatchOption}
 use Rattle.std.proofs.lemmas.Bool.{true≢false}
 use Rattle.disk_face.specs.declared.disk.File.{File}
-use Rattle.disk_face.specs.declared.disk.File.TheVariants.{Main, Log1, Log2}
+use Rattle.disk_face.specs.declared.disk.File.TheVariants.{Log1, Log2}
 use Rattle.disk_face.specs.declared.step.Step.{Step}
-use Rattle.disk_face.specs.Files.{Files, content}
+use Rattle.disk_face.specs.Files.{content}
 use Rattle.disk_face.specs.Steps.{History, reads, further}
 use Rattle.page_spec.specs.PageMap.{PageMap}
-use Rattle.log_spec.specs.LogHeader.{LogFields, header_size, header_bytes}
+use Rattle.log_spec.specs.LogHeader.{header_size, header_bytes}
 use Rattle.log_spec.specs.Accept.{Frame, AreThere, AreValidFrames, page_numbers}
 use Rattle.log_spec.specs.Frames.{frame_size, end_of}
 use Rattle.crash_spec.specs.Elsewhere.{IsElsewhere}
 use Rattle.crash_spec.specs.Known.{known_pieces}
-use Rattle.crash_spec.specs.Logs.{IsWhole, IsOnlyHeader}
+use Rattle.crash_spec.specs.Logs.{IsOnlyHeader}
 use Rattle.crash_spec.specs.Opening.{Opening}
 use Rattle.crash_spec.specs.Recovered.{main_page, page_after_frames, overlaid}
 use Rattle.crash_spec.specs.Store.{StoreView, Holds, named_size}
@@ -25,8 +25,8 @@ use Rattle.log_pair.specs.Appending.{LogStands, HasFrames}
 use Rattle.log_pair.specs.Switch.{other_file}
 use Rattle.log_commit.specs.Commit.{map_under}
 use Rattle.log_commit.specs.Fronts.{HasFront}
-use Rattle.store_spec.specs.Store.{StoreData, KeptStop, frames_in, frames_read, current_read, other_read, newest_in, map_over, view_of}
-use Rattle.store_spec.specs.Standing.{AreCopied, AreThereBoth, AreFronts, IsRunning, IsStoreOn, IsTornOn, StandsOn}
+use Rattle.store_spec.specs.Store.{StoreData, frames_in, frames_read, current_read, other_read, newest_in, map_over, view_of}
+use Rattle.store_spec.specs.Standing.{AreThereBoth, AreFronts, IsStoreOn, StandsOn}
 use Rattle.store_spec.specs.Steps.{stepped}
 use Rattle.store_spec.proofs.Copied.{StepsOn}
 

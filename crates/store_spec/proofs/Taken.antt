@@ -1,14 +1,14 @@
 -- What a step of a checkpoint did, by its answer: nothing, or one step of the disk.
-use Rattle.std.proofs.Common.{◌≡◌, ◌∙◌, ◌⊎◌, inl, inr, ℕ, zero, suc, ◌+◌, ◌-◌, ◌*◌, ◌≤◌, ◌<◌, ◌==◌, if◌then◌else◌, Bool, true, false, List, [], ◌∷◌, length, take, drop, refl, sym, ap, subst, arith, length-drop, mul-le-mul_right, Option, Some, None}
-use Rattle.std.specs.Prelude.{Contains, IfSome, slice_get, Result, Ok, Err, All}
+use Rattle.std.proofs.Common.{◌≡◌, ◌∙◌, ◌⊎◌, inl, inr, ℕ, zero, suc, ◌-◌, ◌*◌, ◌≤◌, ◌<◌, ◌==◌, if◌then◌else◌, Bool, true, false, List, [], ◌∷◌, length, refl, sym, ap, subst, arith, length-drop, mul-le-mul_right, Option, Some}
+use Rattle.std.specs.Prelude.{Contains, IfSome, slice_get, Result, Ok, Err}
 use Rattle.std.proofs.lemmas.List.{length-map}
-use Rattle.std.proofs.lemmas.List.Elements.{All-get_or, All-weaker}
+use Rattle.std.proofs.lemmas.List.Elements.{All-get_or}
 use Rattle.disk_face.specs.declared.Failed.{Failed}
 use Rattle.disk_face.specs.declared.disk.File.TheVariants.{Main}
 use Rattle.disk_face.specs.declared.step.Step.{Step}
 use Rattle.disk_face.specs.declared.step.Step.TheVariants.{Wrote, Refused, Synced}
 use Rattle.disk_face.specs.Files.{Files, content}
-use Rattle.disk_face.specs.Steps.{History, reads, after, further}
+use Rattle.disk_face.specs.Steps.{History, reads, after}
 use Rattle.log_spec.specs.Checksum.{Sum}
 use Rattle.log_spec.specs.LogHeader.{LogFields}
 use Rattle.log_spec.specs.Accept.{Frame, AreThere, AreValidFrames, sum_after, page_number, page_of, page_numbers}
@@ -23,7 +23,7 @@ use Rattle.wal_frames.specs.Found.{log_file}
 use Rattle.wal_index.specs.Index.{log_in}
 use Rattle.wal_index.specs.Frames.{IsLastFrame, IsNextPage}
 use Rattle.wal_rules.specs.declared.state.LogState.{LogState}
-use Rattle.log_pair.specs.Pair.{PairView, LogView, log_of, other_number, current_header}
+use Rattle.log_pair.specs.Pair.{log_of, other_number}
 use Rattle.log_pair.specs.Appending.{HasFrames, IsPageOf}
 use Rattle.log_pair.specs.Switch.{other_file}
 use Rattle.checkpoint.specs.Steps.{log_behind, pages_behind, readers_behind, page_piece, CopiesPage, DoesStep, FailsIn}
@@ -145,7 +145,7 @@ module _ (kept : StoreData) (readers : Readers) (pins : List Pin) where
       subst (λ (n : ℕ). StepsOn kept (record kept.state { copied = page }) here (Wrote (page_piece page n bytes))) (sym long)
       (steps_copied kept here page (copyable told here page live same unfinished next) bytes long
       (λ below. subst (λ (files : Files). page_after_frames (other_read kept.pair files) page below ≡ bytes) (sym same)
-        (sym (last_of_all told frames page does.frame bytes below last is_page))))
+      (sym (last_of_all told frames page does.frame bytes below last is_page))))
     where
       b : Base kept (reads told)
       b = base told kept readers pins live

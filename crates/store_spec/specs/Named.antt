@@ -1,7 +1,6 @@
 -- The maps that stand on the logs name the page size of the store.
-use Rattle.std.specs.Prelude.{◌≡◌, ℕ, ◌<◌, List, [], take, Option, IfSome}
+use Rattle.std.specs.Prelude.{◌≡◌, ℕ, ◌<◌, [], take, Option, IfSome}
 use Rattle.disk_face.specs.Steps.{History, reads}
-use Rattle.log_spec.specs.Accept.{Frame}
 use Rattle.crash_spec.specs.Store.{named_size}
 use Rattle.engine_spec.specs.declared.pins.Readers.{Readers}
 use Rattle.engine_spec.specs.TwoLogs.{holders}
