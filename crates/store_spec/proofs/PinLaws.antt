@@ -28,6 +28,9 @@ use Rattle.store_spec.specs.Pins.{PinHolds, IsFront, IsOlderFront, IsOfCurrent, 
 use Rattle.store_spec.specs.Standing.{IsWholeStore, IsReadable, IsCountedLog, IsLiveStore, StandsFrom}
 use Rattle.store_spec.specs.Steps.{HasTakenStep, stepped}
 use Rattle.store_spec.specs.Named.{AreNamed}
+use Rattle.log_spec.specs.Accept.{Frame}
+use Rattle.std.proofs.lemmas.List.{take_all}
+use Rattle.store_spec.proofs.Runs.{current_count, all_marked, since_least}
 use Rattle.store_spec.proofs.Taken.{Taken, Stays, Goes, taken}
 use Rattle.store_spec.proofs.Copied.{StepsOn}
 use Rattle.store_spec.proofs.Standing.{newest_same, over_same, over_named}
@@ -69,6 +72,15 @@ holders_are kept readers whole = by kept.pair.current whole.pair.which
 
 pub behind_are : (kept : StoreData) (readers : Readers) → IsWholeStore kept → readers_behind kept.state readers ≡ holders (two_logs kept) readers
 behind_are kept readers whole = ap (λ (n : ℕ). if n == 1 then readers.part2 else readers.part1) whole.current
+
+-- the newest map names the page size, as the one after the last commit does
+pub named_all : (told : History) (kept : StoreData) (readers : Readers) → IsWholeStore kept → AreNamed (Some told) kept readers
+    → named_size (reads told).main (other_read kept.pair (reads told)) (current_read kept.pair (reads told)) ≡ kept.page_size
+named_all told kept readers whole named =
+    sym (ap (λ (frames : List Frame). named_size (reads told).main (other_read kept.pair (reads told)) frames)
+    (take_all (mark_at kept.history (since_of kept) (length kept.history)) (current_read kept.pair (reads told))
+    (let count = current_count kept (reads told) whole in let all = all_marked kept in omega arith)))
+    ∙ named.fronts (length kept.history) (record { least = since_least kept; most = omega arith; held = inr (inr refl) })
 
 -- the map of a pin by the log that was current then
 pub pin_current : (kept : StoreData) (pin : Pin) (files : Files) → pin.generation ≡ (current_header kept.pair).generation → pin_map_in kept.pair pin files ≡ map_over kept.pair pin.mark files
@@ -196,6 +208,9 @@ module _ (kept : StoreData) (state : LogState) where
         → StandsFrom sound leads first (Some (further step told)) (stepped kept state) readers
     from_goes sound leads first readers whole free named from = record {
       snaps = from.snaps;
+      newest =
+          subst (λ (pages : PageMap). sound pages × leads first (statements_of kept.history) pages)
+          (sym (newest_same kept state told step s (named_all told kept readers whole named))) from.newest;
       fronts = λ n front.
           subst (λ (pages : PageMap). sound pages × leads first (statements_of (take n kept.history)) pages)
           (sym (over_same kept state told step s (mark_at kept.history (since_of kept) n) (named.fronts n (front_back n front))))
@@ -221,7 +236,7 @@ module _ (kept : StoreData) (readers : Readers) (pins : List Pin) (state : LogSt
       (subst (λ (t : Option History). StandsFrom sound leads first t kept readers) (sym same) from)
   from_step sound leads first None new whole (Goes step same unfinished free current goes) named from =
       subst (λ (t : Option History). StandsFrom sound leads first t (stepped kept state) readers) (sym same)
-      (record { snaps = from.snaps; fronts = tt; older = λ some. tt })
+      (record { snaps = from.snaps; newest = tt; fronts = tt; older = λ some. tt })
   from_step sound leads first (Some told) new whole (Goes step same unfinished free current goes) named from =
       subst (λ (t : Option History). StandsFrom sound leads first t (stepped kept state) readers) (sym same)
       (from_goes kept state told step (goes told told refl refl) sound leads first readers whole free named from)

@@ -43,7 +43,7 @@ pub current_count : (kept : StoreData) (files : Files) → IsWholeStore kept →
 current_count kept files whole =
     frames_in-length _ _ _ ∙ sym (counted_of kept kept.pair.current whole whole.pair.which).counted ∙ ap length whole.index.current.pages
 
-since_least : (kept : StoreData) → since_of kept ≤ length kept.history
+pub since_least : (kept : StoreData) → since_of kept ≤ length kept.history
 since_least kept = omega arith
 
 -- the newest map is the one after the last commit

@@ -30,14 +30,14 @@ kept_pages index state = bare_pages index (log_behind state)
 pub step-requires-clause-frames : goal.step-requires-clause-frames
 step-requires-clause-frames g c =
     ap (λ (pages : List ℕ). length pages) (sym (kept_pages c.args.self.now.index c.args.self.now.state))
-    ∙ subst (λ (n : ℕ). length (log_in (bare c.args.self.now.index) n).pages ≡ (log_of c.args.self.now.pair n).frames) (sym (behind_is (kept_of c.args.self.now) c.requires.1.1.whole))
-    (counted_log (kept_of c.args.self.now) c.requires.1.1.whole (other_number c.args.self.now.pair.current) (other_which (kept_of c.args.self.now) c.requires.1.1.whole)).counted
+    ∙ subst (λ (n : ℕ). length (log_in (bare c.args.self.now.index) n).pages ≡ (log_of c.args.self.now.pair n).frames) (sym (behind_is (kept_of c.args.self.now) c.requires.1.live.whole))
+    (counted_log (kept_of c.args.self.now) c.requires.1.live.whole (other_number c.args.self.now.pair.current) (other_which (kept_of c.args.self.now) c.requires.1.live.whole)).counted
 
 pub step-requires-clause-reached : goal.step-requires-clause-reached
 step-requires-clause-reached g c = λ page next.
     subst (λ (n : ℕ). IsInside (g.D.DiskTells.told c.args.self.now.disk) Main ((page - 1) * n) 0)
-    (sym (ap (λ (bytes : List ℕ). length bytes) c.as_mut_slice.ensures.value ∙ c.requires.1.0.room))
-    (next_reached (kept_of c.args.self.now) (g.D.DiskTells.told c.args.self.now.disk) c.requires.1.1.whole c.requires.1.1.readable page
+    (sym (ap (λ (bytes : List ℕ). length bytes) c.as_mut_slice.ensures.value ∙ c.requires.1.able.room))
+    (next_reached (kept_of c.args.self.now) (g.D.DiskTells.told c.args.self.now.disk) c.requires.1.live.whole c.requires.1.live.readable page
     (subst (λ (pages : List ℕ). IsNextPage pages c.args.self.now.state.copied page) (sym (kept_pages c.args.self.now.index c.args.self.now.state)) next))
 
 pub returns-clause-taken : goal.returns-clause-taken
@@ -49,15 +49,15 @@ returns-clause-taken g c = record {
       (g.D.DiskTells.told c.args.self.now.disk) (g.D.DiskTells.told c.step.new.disk))) (sym (kept_pages c.args.self.now.index c.args.self.now.state)) c.step.ensures.does);
   refused = c.step.ensures.refused;
   fails = subst (λ (n : ℕ). OnErr c.step.result (FailsIn (pages_behind (bare c.args.self.now.index) c.args.self.now.state) c.args.self.now.state n
-      (g.D.DiskTells.told c.args.self.now.disk) (g.D.DiskTells.told c.step.new.disk))) (ap (λ (bytes : List ℕ). length bytes) c.as_mut_slice.ensures.value ∙ c.requires.1.0.room)
+      (g.D.DiskTells.told c.args.self.now.disk) (g.D.DiskTells.told c.step.new.disk))) (ap (λ (bytes : List ℕ). length bytes) c.as_mut_slice.ensures.value ∙ c.requires.1.able.room)
       (subst (λ (pages : List ℕ). OnErr c.step.result (FailsIn pages c.args.self.now.state (length c.as_mut_slice.result.now)
       (g.D.DiskTells.told c.args.self.now.disk) (g.D.DiskTells.told c.step.new.disk))) (sym (kept_pages c.args.self.now.index c.args.self.now.state)) c.step.ensures.fails);
   unheld = c.step.ensures.unheld;
-  moments = λ opening view since size pages. c.step.ensures.moments opening view since (size ∙ sym (ap (λ (bytes : List ℕ). length bytes) c.as_mut_slice.ensures.value ∙ c.requires.1.0.room))
+  moments = λ opening view since size pages. c.step.ensures.moments opening view since (size ∙ sym (ap (λ (bytes : List ℕ). length bytes) c.as_mut_slice.ensures.value ∙ c.requires.1.able.room))
       (pages ∙ kept_pages c.args.self.now.index c.args.self.now.state);
 }
 
 pub returns-clause-logs : goal.returns-clause-logs
-returns-clause-logs g c = steps_told (kept_of c.args.self.now) c.args.readers.now c.step.new.state c.step.result c.requires.1.1.whole
+returns-clause-logs g c = steps_told (kept_of c.args.self.now) c.args.readers.now c.step.new.state c.step.result c.requires.1.live.whole
     (c.step.ensures.logs (two_logs (kept_of c.args.self.now)) c.args.self.now.commits.commits
-    (index_bare c.args.self.now.index _ c.args.self.now.commits.commits (subst (λ logs. IsIndexOf (bare c.args.self.now.index) logs c.args.self.now.commits.commits) (sym (state_is (kept_of c.args.self.now) c.requires.1.1.whole)) c.requires.1.1.whole.index)))
+    (index_bare c.args.self.now.index _ c.args.self.now.commits.commits (subst (λ logs. IsIndexOf (bare c.args.self.now.index) logs c.args.self.now.commits.commits) (sym (state_is (kept_of c.args.self.now) c.requires.1.live.whole)) c.requires.1.live.whole.index)))
