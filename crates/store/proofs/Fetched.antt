@@ -26,7 +26,7 @@ inside told kept readers pins pin page size (Some (log, frame)) live there from 
     let reached = found_reached told kept pin page log frame live.whole live.readable finds in
     (reached.0, reached.1.0, reached.1.1, same ∙ sym (size_of_log kept live.whole log), reached.2)
 
-read_is : (told : Option History) (kept : StoreData) (page : ℕ) (found : Option (ℕ × ℕ)) (bytes : List ℕ) → length bytes ≡ kept.page_size → IsReadAt told kept.pair page found bytes
+pub read_is : (told : Option History) (kept : StoreData) (page : ℕ) (found : Option (ℕ × ℕ)) (bytes : List ℕ) → length bytes ≡ kept.page_size → IsReadAt told kept.pair page found bytes
     → IsFetched told kept page found bytes
 read_is told kept page None bytes long read = (subst (λ (n : ℕ). IsRead told Main ((page - 1) * n) bytes) long read, long)
 read_is told kept page (Some (log, frame)) bytes long read = read

@@ -1,3 +1,4 @@
 mod Zipped
 mod Bare
 mod Fetched
+mod Buffers

@@ -12,7 +12,7 @@ ghost use Rattle.log_spec.specs.Frames.{frame_place, frame_size};
 ghost use Rattle.log_pair.specs.Pair.{log_of};
 ghost use Rattle.wal_frames.specs.Found.{log_file};
 ghost use Rattle.store_spec.specs.Store.{pin_told};
-ghost use Rattle.store_spec.specs.Reading.{FindsPage, FindsBelow, IsFetched};
+ghost use Rattle.store_spec.specs.Reading.{FindsPage, FindsBelow, FindsOver, current_pages};
 ghost use Rattle.store_spec.specs.Standing.{IsWholeStore};
 ghost use Rattle.store.specs.Kept.{kept_of, IsLiveIn};
 ghost use Rattle.store.specs.Fetching.{IsPlaceInside, IsReadAt};
@@ -33,6 +33,18 @@ impl<D: Disk, W: Salts, M: Means> Store<D, W, M> {
             return self.find_below(page, pin.mark);
         }
         match self.index.find(log, page, pin.mark) {
+            Some(frame) => Some((log, frame)),
+            None => self.find_below(page, self.pair.frames(3 - log)),
+        }
+    }
+
+    // The same of the newest map.
+    pub(crate) fn find_newest(&self, page: u32) -> Option<(u8, u32)>
+        requires { IsWholeStore (kept_of self.now) }
+        ensures { FindsOver (kept_of self.now) (length (current_pages (kept_of self.now))) page result }
+    {
+        let log = self.pair.current();
+        match self.index.find(log, page, self.pair.frames(log)) {
             Some(frame) => Some((log, frame)),
             None => self.find_below(page, self.pair.frames(3 - log)),
         }

@@ -6,6 +6,7 @@ mod ckpt;
 mod commits;
 mod fetch;
 mod kept_pages;
+mod lay;
 mod plan;
 mod room;
 mod store;
