@@ -6,3 +6,4 @@ pub mod CheckpointLaws
 pub mod PinLaws
 pub mod FetchLaws
 pub mod MayStep
+pub mod NamedLaws
