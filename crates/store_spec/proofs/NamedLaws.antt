@@ -1,9 +1,12 @@
 -- The maps of a store go on to name the page size when a commit is added to the current log, and when the store goes over to the other one.
-use Rattle.std.proofs.Common.{◌≡◌, ◌∙◌, ◌⊎◌, inl, inr, ℕ, zero, suc, ◌+◌, ◌-◌, ◌≤◌, ◌<◌, ◌==◌, if◌then◌else◌, Bool, true, false, List, [], ◌∷◌, ◌++◌, length, map, take, drop, refl, sym, ap, subst, arith, length-append, Option, Some, None, get_or, take-append-drop}
+use Rattle.std.proofs.Common.{◌≡◌, ◌∙◌, ◌⊎◌, inl, inr, ℕ, zero, suc, ◌+◌, ◌-◌, ◌≤◌, ◌<◌, ◌==◌, if◌then◌else◌, List, [], ◌∷◌, ◌++◌, length, take, drop, refl, sym, ap, subst, arith, length-append, Some, take-append-drop}
 use Rattle.std.specs.Prelude.{All, Contains}
 use Rattle.std.proofs.lemmas.Bool.{cases_lt}
 use Rattle.std.proofs.lemmas.Grind.{flat_map-append}
-use Rattle.std.proofs.lemmas.List.{length-map, take-map, take_all, take_at, take-append-le}
+use Rattle.std.proofs.lemmas.List.{length-map, length-take, length-drop, take_all, take_at, take-append-le, drop-take}
+use Rattle.std.proofs.lemmas.List.Elements.{All-head, All-take, Contains-append_left}
+use Rattle.std.proofs.Math.Seq.{take-nil}
+use Rattle.std.specs.List.{take-map}
 use Rattle.disk_face.specs.Files.{Files}
 use Rattle.disk_face.specs.Steps.{History, reads}
 use Rattle.page_spec.specs.Header.{fields_of, page_size_in}
@@ -13,10 +16,10 @@ use Rattle.crash_spec.specs.Store.{named_size}
 use Rattle.crash_spec.proofs.Overlaid.{held_or_not}
 use Rattle.engine_spec.specs.declared.commits.Commit.{Commit}
 use Rattle.engine_spec.specs.declared.pins.Readers.{Readers}
-use Rattle.engine_spec.specs.TwoLogs.{holders, frames_of}
+use Rattle.engine_spec.specs.TwoLogs.{frames_of}
 use Rattle.wal_index.specs.Index.{log_in}
 use Rattle.log_pair.specs.Pair.{other_number}
-use Rattle.store_spec.specs.Store.{StoreData, current_read, other_read, since_of, other_since_of, two_logs}
+use Rattle.store_spec.specs.Store.{StoreData, current_read, other_read, since_of, other_since_of}
 use Rattle.store_spec.specs.Pins.{IsFront, IsOlderFront, mark_at}
 use Rattle.store_spec.specs.Standing.{IsWholeStore}
 use Rattle.store_spec.specs.Named.{AreNamed}
@@ -132,3 +135,132 @@ module _ (kept later : StoreData) (old new : History) (commit : Commit) (more : 
           ap (λ (frames : List Frame). named_size (reads new).main (other_read later.pair (reads new)) frames)
           (take_all (mark_at later.history (since_of later) n) (current_read later.pair (reads new)) (omega (arith, all, counted_read later (reads new) g.pages_later)))
           ∙ g.newest
+
+no_frames : (frames : List Frame) → page_numbers frames ≡ [] → frames ≡ []
+no_frames [] none = refl
+no_frames (frame ∷ rest) none = absurd cc
+
+-- where page 1 is among the frames, it doesn't matter what lies below them
+named_by : (main : List ℕ) (other frames : List Frame) → Contains (page_numbers frames) 1 → named_size main [] frames ≡ named_size main other frames
+named_by main other frames first =
+    elim (held_or_not frames 1) [
+      | inl held ↦ ap (λ (bytes : List ℕ). page_size_in (fields_of bytes)) (held (take 100 main) (page_after_frames other 1 (take 100 main)))
+      | inr (none, leaves) ↦ absurd (none first)
+    ]
+
+-- some commits of which each wrote page 1 have a frame of it
+writes_first : (commits : List Commit) → 1 ≤ length commits → All (λ commit. Contains commit.wrote 1) commits → Contains (frames_of commits) 1
+writes_first [] some all = absurd (omega arith)
+writes_first (commit ∷ commits) some all =
+    Contains-append_left commit.wrote (frames_of commits) 1 (All-head (λ (c : Commit). Contains c.wrote 1) commit commits all)
+
+-- The store has gone over to its other log, which has no frames; page 1 is among those of the log that was current.
+pub record HasGoneOver (kept later : StoreData) (old new : History) : Type 0 where
+  pub history : later.history ≡ kept.history
+  pub since : since_of later ≡ length kept.history
+  pub other_since : other_since_of later ≡ since_of kept
+  pub page_size : later.page_size ≡ kept.page_size
+  pub main : (reads new).main ≡ (reads old).main
+  pub other : other_read later.pair (reads new) ≡ current_read kept.pair (reads old)
+  pub frames : current_read later.pair (reads new) ≡ []
+  pub pages : page_numbers (current_read kept.pair (reads old)) ≡ current_pages kept
+  pub other_pages : page_numbers (other_read kept.pair (reads old)) ≡ other_pages kept
+  pub page_1 : Contains (page_numbers (current_read kept.pair (reads old))) 1
+
+module _ (kept later : StoreData) (old new : History) (g : HasGoneOver kept later old new) (whole : IsWholeStore kept) (readers : Readers) (named : AreNamed (Some old) kept readers) where
+  abbrev main : List ℕ
+  main = (reads old).main
+
+  abbrev was : List Frame
+  was = current_read kept.pair (reads old)
+
+  abbrev behind : List Frame
+  behind = other_read kept.pair (reads old)
+
+  abbrev mark : ℕ → ℕ
+  mark n = mark_at kept.history (since_of kept) n
+
+  -- the front of the log that was current has page 1
+  front_pages : (n : ℕ) → since_of kept ≤ n → page_numbers (take (mark n) was) ≡ frames_of (drop (since_of kept) (take n kept.history))
+  front_pages n from =
+      sym (take-map page_number (mark n) was) ∙ ap (λ (pages : List ℕ). take (mark n) pages) (g.pages ∙ whole.index.current.pages ∙ frames_split kept.history (since_of kept) n from)
+      ∙ take_at (frames_of (drop (since_of kept) (take n kept.history))) (frames_of (drop n kept.history)) (mark n) refl
+
+  has_first : (n : ℕ) → since_of kept < n → n ≤ length kept.history → Contains (page_numbers (take (mark n) was)) 1
+  has_first n above within =
+      subst (λ (pages : List ℕ). Contains pages 1) (sym (front_pages n (omega arith)))
+      (writes_first (drop (since_of kept) (take n kept.history))
+      (omega (arith, length-drop (since_of kept) (take n kept.history), length-take n kept.history))
+      (subst (λ (cs : List Commit). All (λ commit. Contains commit.wrote 1) cs) (sym part)
+      (All-take (λ (commit : Commit). Contains commit.wrote 1) (n - since_of kept) (drop (since_of kept) kept.history) whole.index.current.first_pages)))
+    where
+      part : drop (since_of kept) (take n kept.history) ≡ take (n - since_of kept) (drop (since_of kept) kept.history)
+      part =
+          ap (λ (m : ℕ). drop (since_of kept) (take m kept.history)) (back n (since_of kept) (omega arith))
+          ∙ drop-take (since_of kept) (n - since_of kept) kept.history
+        where
+          back : (n since : ℕ) → since ≤ n → n ≡ since + (n - since)
+          back n since le = omega arith
+
+  -- where no commit stands before the current log's first, the other log has no frames
+  none_behind : since_of kept ≡ 0 → behind ≡ []
+  none_behind none =
+      no_frames behind (g.other_pages ∙ sym (ap (λ (log : ℕ). (log_in kept.index log).pages) (other_is whole.pair.which)) ∙ whole.index.other.pages
+      ∙ ap (λ (since : ℕ). frames_of (drop (other_since_of kept) (take since kept.history))) none ∙ nothing (other_since_of kept))
+    where
+      nothing : (n : ℕ) → frames_of (drop n (take 0 kept.history)) ≡ []
+      nothing zero = refl
+      nothing (suc n) = refl
+
+      other_is : (kept.pair.current ≡ 1) ⊎ (kept.pair.current ≡ 2) → 3 - kept.pair.current ≡ other_number kept.pair.current
+      other_is (inl one) = ap (λ (n : ℕ). 3 - n) one ∙ sym (ap other_number one)
+      other_is (inr two) = ap (λ (n : ℕ). 3 - n) two ∙ sym (ap other_number two)
+
+  newest : named_size main behind was ≡ kept.page_size
+  newest =
+      ap (λ (frames : List Frame). named_size main behind frames)
+      (sym (take_all (mark (length kept.history)) was (omega (arith, mark_all kept whole, counted_read kept (reads old) g.pages))))
+      ∙ named.fronts (length kept.history) (record { least = whole.index.are.since; most = omega arith; held = inr (inr refl) })
+
+  front_of : (n : ℕ) → n ≤ length kept.history → (since_of kept < n) ⊎ (since_of kept ≡ 0) → named_size main [] (take (mark n) was) ≡ kept.page_size
+  front_of n within held =
+      elim (cases_lt (since_of kept) n) [
+        | inl above ↦
+            named_by main behind (take (mark n) was) (has_first n above within)
+            ∙ named.fronts n (record { least = omega arith; most = within; held = inl above })
+        | inr low ↦
+            elim held [
+              | inl above ↦ absurd (omega arith)
+              | inr none ↦
+                  sym (ap (λ (frames : List Frame). named_size main frames (take (mark n) was)) (none_behind none))
+                  ∙ named.fronts n (record { least = omega (arith, none); most = within; held = inr (inl none) })
+            ]
+      ]
+
+  pub named_over : AreNamed (Some new) later readers
+  named_over = record {
+    fronts = λ n front.
+        (λ i. named_size (g.main i) (g.other i) (take (mark_at later.history (since_of later) n) (g.frames i)))
+        ∙ ap (λ (frames : List Frame). named_size main was frames) (take-nil (mark_at later.history (since_of later) n))
+        ∙ named_by main behind was g.page_1 ∙ newest ∙ sym g.page_size;
+    older = λ some n front.
+        (λ i. named_size (g.main i) [] (take (mark_at (g.history i) (g.other_since i) n) (g.other i)))
+        ∙ front_of n (omega (arith, front.most, g.since))
+        (elim front.held [
+          | inl above ↦ inl (omega (arith, above, g.other_since))
+          | inr none ↦ inr (sym g.other_since ∙ none)
+        ])
+        ∙ sym g.page_size;
+  }
+
+-- A store whose logs have no frames and that has no history yet names its page size in Main.
+pub named_bare : (kept : StoreData) (told : History) (readers : Readers) → current_read kept.pair (reads told) ≡ [] → other_read kept.pair (reads told) ≡ []
+    → named_size (reads told).main [] [] ≡ kept.page_size → AreNamed (Some told) kept readers
+named_bare kept told readers none neither named = record {
+  fronts = λ n front.
+      (λ i. named_size (reads told).main (neither i) (take (mark_at kept.history (since_of kept) n) (none i)))
+      ∙ ap (λ (frames : List Frame). named_size (reads told).main [] frames) (take-nil (mark_at kept.history (since_of kept) n)) ∙ named;
+  older = λ some n front.
+      (λ i. named_size (reads told).main [] (take (mark_at kept.history (other_since_of kept) n) (neither i)))
+      ∙ ap (λ (frames : List Frame). named_size (reads told).main [] frames) (take-nil (mark_at kept.history (other_since_of kept) n)) ∙ named;
+}
