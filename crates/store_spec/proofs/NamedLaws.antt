@@ -1,5 +1,5 @@
 -- The maps of a store go on to name the page size when a commit is added to the current log, and when the store goes over to the other one.
-use Rattle.std.proofs.Common.{◌≡◌, ◌∙◌, ◌⊎◌, inl, inr, ℕ, zero, suc, ◌+◌, ◌-◌, ◌≤◌, ◌<◌, ◌==◌, if◌then◌else◌, List, [], ◌∷◌, ◌++◌, length, take, drop, refl, sym, ap, subst, arith, length-append, Some, take-append-drop}
+use Rattle.std.proofs.Common.{◌≡◌, ◌∙◌, ◌⊎◌, inl, inr, ℕ, zero, suc, ◌+◌, ◌-◌, ◌≤◌, ◌<◌, ◌==◌, if◌then◌else◌, List, [], ◌∷◌, ◌++◌, length, take, drop, refl, sym, ap, subst, arith, length-append, Option, Some, take-append-drop}
 use Rattle.std.specs.Prelude.{All, Contains}
 use Rattle.std.proofs.lemmas.Bool.{cases_lt}
 use Rattle.std.proofs.lemmas.Grind.{flat_map-append}
@@ -16,10 +16,10 @@ use Rattle.crash_spec.specs.Store.{named_size}
 use Rattle.crash_spec.proofs.Overlaid.{held_or_not}
 use Rattle.engine_spec.specs.declared.commits.Commit.{Commit}
 use Rattle.engine_spec.specs.declared.pins.Readers.{Readers}
-use Rattle.engine_spec.specs.TwoLogs.{frames_of}
+use Rattle.engine_spec.specs.TwoLogs.{holders, frames_of}
 use Rattle.wal_index.specs.Index.{log_in}
 use Rattle.log_pair.specs.Pair.{other_number}
-use Rattle.store_spec.specs.Store.{StoreData, current_read, other_read, since_of, other_since_of}
+use Rattle.store_spec.specs.Store.{StoreData, current_read, other_read, since_of, other_since_of, two_logs}
 use Rattle.store_spec.specs.Pins.{IsFront, IsOlderFront, mark_at}
 use Rattle.store_spec.specs.Standing.{IsWholeStore}
 use Rattle.store_spec.specs.Named.{AreNamed}
@@ -264,3 +264,8 @@ named_bare kept told readers none neither named = record {
       (λ i. named_size (reads told).main [] (take (mark_at kept.history (other_since_of kept) n) (neither i)))
       ∙ ap (λ (frames : List Frame). named_size (reads told).main [] frames) (take-nil (mark_at kept.history (other_since_of kept) n)) ∙ named;
 }
+
+-- Readers who come to the current log, or go, leave it so.
+pub named_held : (told : Option History) (kept : StoreData) (readers others : Readers) → (0 < holders (two_logs kept) others → 0 < holders (two_logs kept) readers)
+    → AreNamed told kept readers → AreNamed told kept others
+named_held told kept readers others held named = record { fronts = named.fronts; older = λ some. named.older (held some) }
