@@ -1,2 +1,2 @@
-pub mod Copies
+mod Copies
 pub mod Stepping

@@ -1,5 +1,5 @@
 -- A step of a checkpoint keeps the store, its maps and its pins, and at each moment of it a crash leaves one of its maps.
-use Rattle.std.proofs.Common.{◌≡◌, ◌≢◌, ◌∙◌, inl, inr, ℕ, false, List, ◌∷◌, refl, sym, ap, subst, arith, Option, Some, None}
+use Rattle.std.proofs.Common.{◌≡◌, ◌≢◌, ◌∙◌, inl, inr, ℕ, false, List, ◌∷◌, ◌++◌, refl, sym, ap, subst, arith, Option, Some, None}
 use Rattle.std.specs.Prelude.{MatchOption, Contains, Result, Ok, Err, IfOk}
 use Rattle.std.specs.Option.{option_map}
 use Rattle.std.proofs.lemmas.Bool.{true≢false}
@@ -18,7 +18,7 @@ use Rattle.crash_spec.proofs.Rebased.{rebased_reads}
 use Rattle.engine_spec.specs.declared.pins.Pin.{Pin}
 use Rattle.engine_spec.specs.declared.pins.Ckpt.{Ckpt}
 use Rattle.engine_spec.specs.declared.pins.Readers.{Readers}
-use Rattle.engine_spec.specs.Leaves.{may_recover, kept_map, RecoversOneOf, LeavesOneOf, AtEach}
+use Rattle.engine_spec.specs.Leaves.{may_recover, if_told, kept_map, RecoversOneOf, LeavesOneOf, AtEach}
 use Rattle.engine_spec.specs.TwoLogs.{TwoLogs, Steps}
 use Rattle.wal_rules.specs.declared.state.LogState.{LogState}
 use Rattle.wal_rules.specs.Rules.{logs_with}
@@ -220,3 +220,12 @@ step_logs kept readers pins (Ok answer) state old new live has =
   where
     current : state.current ≡ kept.state.current
     current = current_stays kept readers state old new (taken kept readers pins (Ok answer) state old new live has)
+
+-- After the step a crash may leave the same maps as before it.
+pub step_may_recover : (kept : StoreData) (readers : Readers) (pins : List Pin) (result : Result Ckpt Failed) (state : LogState) (old new : Option History) (faults later : ℕ)
+    → IsLiveStore old kept readers pins → HasTakenStep kept readers result state old new
+    → may_recover (store_state new later (stepped kept state) readers) ≡ may_recover (store_state old faults kept readers)
+step_may_recover kept readers pins result state old new faults later live has =
+    let newest = step_newest kept readers pins result state old new live has in
+    let stopped = step_stop kept readers pins result state old new live has in
+    λ i. if_told (newest i) ++ kept_map (stopped i)

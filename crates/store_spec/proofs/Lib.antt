@@ -11,3 +11,4 @@ pub mod CheckpointLaws
 pub mod PinLaws
 pub mod FetchLaws
 pub mod MayStep
+pub mod NamedLaws
