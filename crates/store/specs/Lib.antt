@@ -4,3 +4,4 @@ pub mod Kept
 pub mod Fetching
 pub mod Barring
 pub mod Planning
+pub mod Writing

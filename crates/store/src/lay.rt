@@ -2,12 +2,13 @@
 ghost use Rattle.std.specs.Prelude.{◌≡◌, ◌≤◌, [], length, is_ok, All, IfSome, OnOk, List};
 ghost use Rattle.disk_face.specs.Faults.{Counts};
 ghost use Rattle.disk_face.specs.Stays.{OnlyReads};
-ghost use Rattle.page_spec.specs.PageMap.{page_at};
+ghost use Rattle.page_spec.specs.PageMap.{PageMap, page_at};
 ghost use Rattle.engine_spec.specs.PageSet.{AreDifferent};
-ghost use Rattle.engine_spec.specs.Change.{laid};
+ghost use Rattle.engine_spec.specs.Change.{Change, laid};
 ghost use Rattle.engine_spec.specs.declared.pins.Pin.{Pin as Pins};
 ghost use Rattle.engine_spec.specs.declared.pins.Readers.{Readers};
 ghost use Rattle.laying.specs.Order.{page_numbers};
+ghost use Rattle.laying.specs.First.{IsChangeOf};
 ghost use Rattle.page_face.specs.Prepared.{change_in};
 ghost use Rattle.store_spec.specs.Store.{newest_told};
 ghost use Rattle.store.specs.Kept.{kept_of, IsLiveIn};
@@ -15,8 +16,9 @@ ghost use Rattle.store.specs.Kept.{kept_of, IsLiveIn};
 use crate::fetch::read_page;
 use crate::store::Store;
 use disk_face::{Disk, Failed, Salts};
+use engine_spec::PageImage;
 use laying::lay_first;
-use page_face::{Means, Prepared};
+use page_face::{Means, Mode, Prepared};
 
 impl<D: Disk, W: Salts, M: Means> Store<D, W, M> {
     // Puts page 1 of the map that the transaction's commit makes into the buffer. After `Failed` the disk failed in reading, and the buffer has any bytes.
@@ -35,12 +37,12 @@ impl<D: Disk, W: Salts, M: Means> Store<D, W, M> {
     {
         match self.read_first() {
             Ok(()) => {
-                lay_first(
+                lay_in(
                     prepared.mode,
                     prepared.tail,
                     prepared.changed.as_slice(),
                     self.size,
-                    self.buf.as_mut_slice(),
+                    &mut self.buf,
                 );
                 Ok(())
             }
@@ -66,4 +68,17 @@ impl<D: Disk, W: Salts, M: Means> Store<D, W, M> {
             self.buf.as_mut_slice(),
         )
     }
+}
+
+// Lays page 1 in a buffer that has page 1 of the newest map.
+fn lay_in(mode: Mode, tail: bool, changed: &[PageImage], size: u32, buf: &mut Vec<u8>)
+    requires room { 100 ≤ length buf.old.items }
+    requires different { AreDifferent (page_numbers changed.now) }
+    requires least { All (λ image. 1 ≤ image.page) changed.now }
+    requires whole { All (λ image. length image.bytes ≡ length buf.old.items) changed.now }
+    ensures laid { (pages : PageMap) (change : Change) → IsChangeOf mode tail changed.now change → length pages ≡ size
+        → page_at pages 1 ≡ buf.old.items → buf.new.items ≡ page_at (laid pages change) 1 }
+    ensures count { length buf.new.items ≡ length buf.old.items }
+{
+    lay_first(mode, tail, changed, size, buf.as_mut_slice());
 }

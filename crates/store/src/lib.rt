@@ -10,6 +10,7 @@ mod lay;
 mod plan;
 mod room;
 mod store;
+mod write;
 
 pub use commits::{Commits, Wrote};
 pub use kept_pages::KeptPages;
