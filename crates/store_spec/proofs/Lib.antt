@@ -2,3 +2,5 @@ pub mod EngineLaws
 pub mod Counting
 pub mod Runs
 pub mod Commits
+pub mod FramesStand
+pub mod Writing
