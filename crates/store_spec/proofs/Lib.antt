@@ -4,3 +4,4 @@ pub mod Runs
 pub mod Commits
 pub mod FramesStand
 pub mod Writing
+pub mod Committed
