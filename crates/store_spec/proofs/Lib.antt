@@ -5,3 +5,4 @@ pub mod Commits
 pub mod FramesStand
 pub mod Writing
 pub mod Committed
+pub mod CommitPins
