@@ -97,7 +97,7 @@ module _ (kept later : StoreData) (commits : List Commit) (goes : GoesOnFrom kep
   generation_is : (current_header later.pair).generation ≡ (current_header kept.pair).generation
   generation_is = ap (λ (h : LogFields). h.generation) (current_header_of kept.pair later.pair goes.pair)
 
-  long : length later.history ≡ length kept.history + length commits
+  pub long : length later.history ≡ length kept.history + length commits
   long = ap length goes.history ∙ length-append kept.history commits
 
   held_on : (n : ℕ) → (commits ≡ []) ⊎ HasBegun kept → since_of kept ≤ n → (since_of kept < n) ⊎ (since_of kept ≡ 0) ⊎ (n ≡ length kept.history)
@@ -108,7 +108,7 @@ module _ (kept later : StoreData) (commits : List Commit) (goes : GoesOnFrom kep
   held_on n (inr (inl less)) from (inr (inr last)) = inl (omega (arith, goes.since, less, last))
   held_on n (inr (inr none)) from (inr (inr last)) = inr (inl (goes.since ∙ none))
 
-  place_on : (pin : Pin) → (IsOfCurrent kept pin → (commits ≡ []) ⊎ HasBegun kept) → IsWholeStore kept → IsOfCurrent kept pin ⊎ IsOfOther kept pin → IsOfCurrent later pin ⊎ IsOfOther later pin
+  pub place_on : (pin : Pin) → (IsOfCurrent kept pin → (commits ≡ []) ⊎ HasBegun kept) → IsWholeStore kept → IsOfCurrent kept pin ⊎ IsOfOther kept pin → IsOfCurrent later pin ⊎ IsOfOther later pin
   place_on pin begun whole (inl of) = inl (record {
     generation = of.generation ∙ sym generation_is;
     front = record {
@@ -143,7 +143,7 @@ no_conflict_before mode numbers n history commit within none q there =
     none_written mode q (drop n history) commit (subst (λ (cs : List Commit). is_written mode q cs ≡ false) (drop-append-le n history (commit ∷ []) within) (none q there))
 
 -- what may be laid on the newest map may be laid on the one that a commit makes of it, where no page that was read was written
-may_lay_on : (mode : Mode) (snapshot newest : PageMap) (numbers : List ℕ) (asked : Submitted) (wrote : List ℕ) (size page_size : ℕ) → 100 ≤ page_size → IsWhole size page_size asked.change
+pub may_lay_on : (mode : Mode) (snapshot newest : PageMap) (numbers : List ℕ) (asked : Submitted) (wrote : List ℕ) (size page_size : ℕ) → 100 ≤ page_size → IsWhole size page_size asked.change
     → 1 ≤ size → HasSizes newest size page_size → CoversChange asked.change wrote → Contains wrote 1 → (mode ≡ Plain → Contains numbers 1)
     → ((q : ℕ) → Contains numbers q → counts mode q (commit_of asked wrote) ≡ false) → MayLayOn mode snapshot numbers newest → MayLayOn mode snapshot numbers (laid newest asked.change)
 may_lay_on Plain snapshot newest numbers asked wrote size page_size legal whole some sizes covers first reads none may =

@@ -53,7 +53,7 @@ numbers_are (image ∷ images) [] are = absurd are
 numbers_are (image ∷ images) (frame ∷ frames) (same, bytes, are) = let rest = numbers_are images frames are in cc
 
 -- a disk that tells goes on to tell
-still_told : (P : Step → Type 0) (told : History) (Q : Option History → Type 0) (new : Option History) → GoesBy P (Some told) new → ((later : History) → new ≡ Some later → Q (Some later)) → Q new
+pub still_told : (P : Step → Type 0) (told : History) (Q : Option History → Type 0) (new : Option History) → GoesBy P (Some told) new → ((later : History) → new ≡ Some later → Q (Some later)) → Q new
 still_told P told Q new (more, all, is) law = subst Q (sym is) (law (grown more told) is)
 
 -- since an opening, where the disk tells
@@ -87,18 +87,18 @@ module _ (opening : Opening) (kept : StoreData) (ok : Bool) (images : List PageI
 module _ (opening : Opening) (kept : StoreData) (images : List PageImage) (pair : PairView) (index : Indexed) (commit : Commit) (told : History) (new : Option History)
     (may : MayWriteOn kept) (has : HasWritten kept true images pair (Some told) new) (fits : FitsMap (now_view kept (reads told)) images kept.size)
     (indexed : HasIndexed kept commit index) (numbers : page_numbers has.more ≡ commit.wrote) (opened : IsOpenedAt opening kept (Some told)) where
-  abbrev Made : PageMap
+  abbrev pub Made : PageMap
   Made = map_under (newest_in kept.pair (reads told)) images kept.size
 
-  abbrev IsDone : History → Type 0
+  abbrev pub IsDone : History → Type 0
   IsDone t = IsBeside opening kept (reads told) t × IsCommittedTo opening (now_view kept (reads told)) pair has.more Made t
 
-  is_done : Since opening.start IsDone new
+  pub is_done : Since opening.start IsDone new
   is_done =
       since_both opening.start (IsBeside opening kept (reads told)) (IsCommittedTo opening (now_view kept (reads told)) pair has.more Made) new
       (asides opening kept true images pair told new may has fits opened) (passes opening kept true images pair told new may has fits opened).holds
 
-  same_pair : IsPairOf kept.pair pair
+  pub same_pair : IsPairOf kept.pair pair
   same_pair = (pair_more kept.pair pair (length images) has.writes.becomes).0
 
   done_whole : Since opening.start (λ t. IsWhole opening t (current_file kept.pair)) new
@@ -117,40 +117,40 @@ module _ (opening : Opening) (kept : StoreData) (images : List PageImage) (pair 
     done_then : Since opening.start IsDone (Some later)
     done_then = subst (Since opening.start IsDone) is is_done
 
-    done_current : current_read pair (reads later) ≡ current_read kept.pair (reads told) ++ has.more
+    pub done_current : current_read pair (reads later) ≡ current_read kept.pair (reads told) ++ has.more
     done_current =
         at_told opening.start IsDone (λ f. current_read pair f ≡ current_read kept.pair (reads told) ++ has.more) later
         (λ t done. current_after opening kept pair index commit (reads told) has.more Made t may.running same_pair indexed numbers done.0 done.1) done_then
 
-    done_other : other_read pair (reads later) ≡ other_read kept.pair (reads told)
+    pub done_other : other_read pair (reads later) ≡ other_read kept.pair (reads told)
     done_other =
         at_told opening.start IsDone (λ f. other_read pair f ≡ other_read kept.pair (reads told)) later
         (λ t done. other_after opening kept pair index commit (reads told) has.more Made t may.running same_pair indexed numbers done.0 done.1) done_then
 
-    done_newest : newest_in pair (reads later) ≡ Made
+    pub done_newest : newest_in pair (reads later) ≡ Made
     done_newest =
         at_told opening.start IsDone (λ f. newest_in pair f ≡ Made) later
         (λ t done. newest_after opening kept pair index commit (reads told) has.more Made t may.running same_pair indexed numbers done.0 done.1) done_then
 
-    done_main : (reads later).main ≡ (reads told).main
+    pub done_main : (reads later).main ≡ (reads told).main
     done_main = at_told opening.start IsDone (λ f. f.main ≡ (reads told).main) later (λ t done. done.0.main) done_then
 
 -- Not written: since an opening.
 module _ (opening : Opening) (kept : StoreData) (images : List PageImage) (pair : PairView) (stop : KeptStop) (told : History) (new : Option History)
     (may : MayWriteOn kept) (has : HasWritten kept false images pair (Some told) new) (fits : FitsMap (now_view kept (reads told)) images kept.size)
     (opened : IsOpenedAt opening kept (Some told)) where
-  abbrev Coming : PageMap
+  abbrev pub Coming : PageMap
   Coming = map_under (newest_in kept.pair (reads told)) images kept.size
 
-  abbrev IsOnWay : History → Type 0
+  abbrev pub IsOnWay : History → Type 0
   IsOnWay t = IsBeside opening kept (reads told) t × MayCome opening (now_view kept (reads told)) Coming t
 
-  on_way : Since opening.start IsOnWay new
+  pub on_way : Since opening.start IsOnWay new
   on_way =
       since_both opening.start (IsBeside opening kept (reads told)) (MayCome opening (now_view kept (reads told)) Coming) new
       (asides opening kept false images pair told new may has fits opened) (passes opening kept false images pair told new may has fits opened).holds
 
-  still_pair : IsPairOf kept.pair pair × ((log_of pair pair.current).frames ≡ (log_of kept.pair kept.pair.current).frames)
+  pub still_pair : IsPairOf kept.pair pair × ((log_of pair pair.current).frames ≡ (log_of kept.pair kept.pair.current).frames)
   still_pair = pair_appended kept.pair pair has.writes.becomes
 
   way_opened : stop.images ≡ images → stop.size ≡ kept.size → IsOpenedAt opening (stopped kept pair stop) new
@@ -162,22 +162,22 @@ module _ (opening : Opening) (kept : StoreData) (images : List PageImage) (pair 
     way_then : Since opening.start IsOnWay (Some later)
     way_then = subst (Since opening.start IsOnWay) is on_way
 
-    way_current : current_read pair (reads later) ≡ current_read kept.pair (reads told)
+    pub way_current : current_read pair (reads later) ≡ current_read kept.pair (reads told)
     way_current =
         at_told opening.start IsOnWay (λ f. current_read pair f ≡ current_read kept.pair (reads told)) later
         (λ t way. current_stays opening kept pair stop (reads told) Coming t still_pair.0 still_pair.1 way.0 way.1) way_then
 
-    way_other : other_read pair (reads later) ≡ other_read kept.pair (reads told)
+    pub way_other : other_read pair (reads later) ≡ other_read kept.pair (reads told)
     way_other =
         at_told opening.start IsOnWay (λ f. other_read pair f ≡ other_read kept.pair (reads told)) later
         (λ t way. other_stays opening kept pair stop (reads told) Coming t still_pair.0 still_pair.1 way.0 way.1) way_then
 
-    way_newest : newest_in pair (reads later) ≡ newest_in kept.pair (reads told)
+    pub way_newest : newest_in pair (reads later) ≡ newest_in kept.pair (reads told)
     way_newest =
         at_told opening.start IsOnWay (λ f. newest_in pair f ≡ newest_in kept.pair (reads told)) later
         (λ t way. newest_stays opening kept pair stop (reads told) Coming t still_pair.0 still_pair.1 way.0 way.1) way_then
 
-    way_main : (reads later).main ≡ (reads told).main
+    pub way_main : (reads later).main ≡ (reads told).main
     way_main = at_told opening.start IsOnWay (λ f. f.main ≡ (reads told).main) later (λ t way. way.0.main) way_then
 
 -- what a commit is answered, of any disk

@@ -9,7 +9,8 @@ use Rattle.disk_face.specs.Steps.{History, reads}
 use Rattle.log_spec.specs.Checksum.{Sum}
 use Rattle.log_spec.specs.LogHeader.{LogFields, header_size}
 use Rattle.log_spec.specs.Accept.{Frame, AreThere, AreValidFrames, sum_after}
-use Rattle.log_spec.specs.Frames.{frame_size}
+use Rattle.log_spec.specs.Frames.{frame_size, frame_place, end_of}
+use Rattle.log_spec.proofs.PlaceLaws.{end_is_place}
 use Rattle.crash_spec.specs.Logs.{IsOnDisk}
 use Rattle.crash_spec.specs.Opening.{Opening, Since, rebased}
 use Rattle.crash_spec.proofs.Rebased.{rebased_reads}
@@ -77,6 +78,14 @@ module _ (opening : Opening) (told : History) (file : File) (header : LogFields)
   pub log_has : HasFrames (Some told) (log_file log) (log_of pair log).header (frames_read pair log (reads told))
   log_has = subst (λ (fs : List Frame). HasFrames (Some told) (log_file log) (log_of pair log).header fs) (sym log_is_read) (log_valid, log_there)
 
+  -- and its file reaches so far
+  pub log_reach : frame_place (log_of pair log).header (log_of pair log).frames + 0 ≤ length (content (reads told) (log_file log))
+  log_reach =
+      let place : end_of frames ≡ frame_place (log_of pair log).header (log_of pair log).frames =
+      end_is_place (log_of pair log).header (log_of pair log).header.sum frames log_valid ∙ ap (frame_place (log_of pair log).header) count in
+      let long : end_of frames ≤ length (content (reads told) (log_file log)) = subst (λ (f : File). end_of frames ≤ length (content (reads told) f)) is_file on.long in
+      omega (arith, place, long)
+
 -- The view is one of the store's logs.
 pub record IsViewOf (kept : StoreData) (view : StoreView) : Type 0 where
   pub current : view.current ≡ current_file kept.pair
@@ -96,6 +105,12 @@ module _ (opening : Opening) (kept : StoreData) (view : StoreView) (told : Histo
 
   pub current_has : HasFrames (Some told) (current_file kept.pair) (current_header kept.pair) (current_read kept.pair (reads told))
   current_has = log_has opening told view.current view.header view.frames view.pending kept.pair kept.pair.current holds.on.newest of.current of.header of.count
+
+  pub current_reach : frame_place (current_header kept.pair) (log_of kept.pair kept.pair.current).frames + 0 ≤ length (content (reads told) (current_file kept.pair))
+  current_reach = log_reach opening told view.current view.header view.frames view.pending kept.pair kept.pair.current holds.on.newest of.current of.header of.count
+
+  pub other_reach : frame_place (log_of kept.pair (other_number kept.pair.current)).header (log_of kept.pair (other_number kept.pair.current)).frames + 0 ≤ length (content (reads told) (other_file kept.pair))
+  other_reach = log_reach opening told (other_of view.current) view.older view.other [] kept.pair (other_number kept.pair.current) holds.on.oldest other_at of.older of.other_count
 
   pub other_is_read : other_read kept.pair (reads told) ≡ view.other
   other_is_read = log_is_read opening told (other_of view.current) view.older view.other [] kept.pair (other_number kept.pair.current) holds.on.oldest other_at of.older of.other_count

@@ -6,3 +6,4 @@ pub mod FramesStand
 pub mod Writing
 pub mod Committed
 pub mod CommitPins
+pub mod Committing

@@ -226,13 +226,13 @@ copied_of kept frames other main same is is_main copied number from so =
 module _ (opening : Opening) (kept : StoreData) (pair : PairView) (index : Indexed) (commit : Commit) (files : Files) (more : List Frame) (later : PageMap) (told : History)
     (none : kept.stop ≡ None) (same : IsPairOf kept.pair pair) (has : HasIndexed kept commit index) (numbers : page_numbers more ≡ commit.wrote)
     (aside : IsBeside opening kept files told) (done : IsCommittedTo opening (now_view kept files) pair more later told) where
-  abbrev Kept : StoreData
+  abbrev pub Kept : StoreData
   Kept = committed kept pair index commit
 
-  abbrev View : StoreView
+  abbrev pub View : StoreView
   View = with_frames (now_view kept files) more later
 
-  committed_view : IsViewOf Kept View
+  pub committed_view : IsViewOf Kept View
   committed_view = record {
     current = sym (current_file_of kept.pair pair same);
     header = sym (current_header_of kept.pair pair same);
@@ -287,13 +287,13 @@ module _ (opening : Opening) (kept : StoreData) (pair : PairView) (index : Index
 module _ (opening : Opening) (kept : StoreData) (pair : PairView) (stop : KeptStop) (files : Files) (later : PageMap) (told : History)
     (same : IsPairOf kept.pair pair) (counted : (log_of pair pair.current).frames ≡ (log_of kept.pair kept.pair.current).frames)
     (aside : IsBeside opening kept files told) (may : MayCome opening (now_view kept files) later told) where
-  abbrev Stopped : StoreData
+  abbrev pub Stopped : StoreData
   Stopped = stopped kept pair stop
 
-  abbrev Coming : StoreView
+  abbrev pub Coming : StoreView
   Coming = with_pending (now_view kept files) may.0 later
 
-  stopped_view : IsViewOf Stopped Coming
+  pub stopped_view : IsViewOf Stopped Coming
   stopped_view = record {
     current = sym (current_file_of kept.pair pair same);
     header = sym (current_header_of kept.pair pair same);
