@@ -114,7 +114,7 @@ module _ (opening : Opening) (kept : StoreData) (images : List PageImage) (pair 
 
   -- what is read then
   module _ (later : History) (is : new ≡ Some later) where
-    done_then : Since opening.start IsDone (Some later)
+    pub done_then : Since opening.start IsDone (Some later)
     done_then = subst (Since opening.start IsDone) is is_done
 
     pub done_current : current_read pair (reads later) ≡ current_read kept.pair (reads told) ++ has.more
@@ -159,7 +159,7 @@ module _ (opening : Opening) (kept : StoreData) (images : List PageImage) (pair 
       (λ t way. inl (on_stopped opening kept pair stop (reads told) Coming t still_pair.0 still_pair.1 way.0 way.1 (λ i. map_under (newest_in kept.pair (reads told)) (sym is_images i) (sym is_size i)))) new on_way
 
   module _ (later : History) (is : new ≡ Some later) where
-    way_then : Since opening.start IsOnWay (Some later)
+    pub way_then : Since opening.start IsOnWay (Some later)
     way_then = subst (Since opening.start IsOnWay) is on_way
 
     pub way_current : current_read pair (reads later) ≡ current_read kept.pair (reads told)

@@ -7,3 +7,4 @@ pub mod Writing
 pub mod Committed
 pub mod CommitPins
 pub mod Committing
+pub mod CommitLive
