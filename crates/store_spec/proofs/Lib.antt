@@ -8,3 +8,4 @@ pub mod Committed
 pub mod CommitPins
 pub mod Committing
 pub mod CommitLive
+pub mod CommitRuns
