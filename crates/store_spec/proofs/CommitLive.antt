@@ -1,16 +1,15 @@
 -- A store is live after a commit that was written, or failed in writing.
-use Rattle.std.proofs.Common.{◌≡◌, ◌∙◌, ℕ, zero, suc, ◌+◌, ◌-◌, ◌*◌, ◌<◌, ◌≤◌, ◌^◌, ◌==◌, Bool, true, false, List, [], ◌∷◌, ◌++◌, length, map, take, drop, get_or, length-append, append-nil, refl, sym, ap, subst, inl, inr, arith, Option, Some, None, All, Contains}
+use Rattle.std.proofs.Common.{◌≡◌, ◌∙◌, ℕ, ◌+◌, ◌*◌, ◌≤◌, true, false, List, [], length, get_or, length-append, sym, ap, subst, inl, inr, arith, Option, Some, None, All, Contains}
 use Rattle.std.specs.Prelude.{◌⊎◌, IfSome}
 use Rattle.std.specs.Option.{option_map}
 use Rattle.std.proofs.lemmas.List.{length-map}
 use Rattle.std.proofs.lemmas.List.Elements.{All-append, Contains-get_or}
-use Rattle.disk_face.specs.declared.disk.File.TheVariants.{Main, Log1, Log2}
-use Rattle.disk_face.specs.Files.{Files, content}
+use Rattle.disk_face.specs.Files.{content}
 use Rattle.disk_face.specs.Steps.{History, reads}
 use Rattle.page_spec.specs.PageMap.{PageMap}
 use Rattle.log_spec.specs.LogHeader.{LogFields}
 use Rattle.log_spec.specs.Frames.{frame_place}
-use Rattle.crash_spec.specs.Opening.{Opening, Since}
+use Rattle.crash_spec.specs.Opening.{Since}
 use Rattle.engine_spec.specs.declared.commits.Commit.{Commit}
 use Rattle.engine_spec.specs.declared.commits.PageImage.{PageImage}
 use Rattle.engine_spec.specs.declared.pins.Pin.{Pin}
@@ -25,15 +24,15 @@ use Rattle.wal_index.specs.Index.{Indexed, log_in}
 use Rattle.wal_rules.specs.Indexing.{IsIndexOf}
 use Rattle.log_pair.specs.Pair.{PairView, log_of, other_number, current_file, current_header}
 use Rattle.log_pair.specs.Switch.{other_file}
-use Rattle.log_commit.specs.Commit.{IsCommitStep, map_under, with_appended}
+use Rattle.log_commit.specs.Commit.{IsCommitStep, map_under}
 use Rattle.store_spec.specs.Store.{StoreData, KeptStop, newest_in, newest_told, two_logs}
-use Rattle.store_spec.specs.Pins.{PinHolds, IsOfCurrent}
-use Rattle.store_spec.specs.Standing.{IsWholeStore, IsCountedLog, IsReadable, IsLiveStore, IsOpenedAt}
+use Rattle.store_spec.specs.Pins.{IsOfCurrent}
+use Rattle.store_spec.specs.Standing.{IsWholeStore, IsCountedLog, IsReadable, IsLiveStore}
 use Rattle.store_spec.specs.Steps.{HasIndexed, committed, stopped}
 use Rattle.store_spec.proofs.Commits.{index_keeps}
-use Rattle.store_spec.proofs.Committed.{still_told, same_pair, still_pair, is_done, on_way, IsDone, IsOnWay, done_then, way_then, more_numbers, opened_committed, opened_stopped, newest_committed, newest_stopped}
-use Rattle.store_spec.proofs.CommitPins.{HasRead, HasBegun, GoesOnFrom}
-use Rattle.store_spec.proofs.Committing.{IsCommitting, goes_committed, goes_stopped, read_committed, read_stopped, pin_committed, pin_stopped}
+use Rattle.store_spec.proofs.Committed.{still_told, IsDone, IsOnWay, done_then, way_then, more_numbers, opened_committed, opened_stopped, newest_committed, newest_stopped}
+use Rattle.store_spec.proofs.CommitPins.{HasBegun, GoesOnFrom}
+use Rattle.store_spec.proofs.Committing.{IsCommitting, goes_stopped, read_committed, read_stopped, pin_committed, pin_stopped}
 use Rattle.store_spec.proofs.FramesStand.{at_told, current_reach, other_reach}
 use Rattle.store_spec.proofs.Writing.{IsPairOf, pair_more, pair_appended, current_header_of, other_header_of, other_frames_of, committed_view, stopped_view, Kept, View, Stopped}
 use Rattle.store_spec.proofs.Writing as writing
@@ -60,22 +59,22 @@ module _ (kept : StoreData) (images : List PageImage) (pair : PairView) (index :
 
   counted_current : (log : ℕ) → log ≡ kept.pair.current → IsCountedLog kept log → IsCountedLog (committed kept pair index commit) log
   counted_current log is counts = subst (IsCountedLog (committed kept pair index commit)) (sym is) (
-        let old_counts = subst (IsCountedLog kept) is counts in
-        record {
-          counted = ap length indexed.pages ∙ length-append (log_in kept.index kept.pair.current).pages commit.wrote
-              ∙ omega (arith, old_counts.counted, ap length c.lays.numbers, length-map images (λ (image : PageImage). image.page), made.1, ap (λ (n : ℕ). (log_of pair n).frames) made.0.current);
-          pages = subst (All (λ page. (1 ≤ page) × (page ≤ kept.size))) (sym indexed.pages)
-              (All-append (λ (page : ℕ). (1 ≤ page) × (page ≤ kept.size)) (log_in kept.index kept.pair.current).pages commit.wrote old_counts.pages c.lays.within);
-        }
+      let old_counts = subst (IsCountedLog kept) is counts in
+      record {
+        counted = ap length indexed.pages ∙ length-append (log_in kept.index kept.pair.current).pages commit.wrote
+            ∙ omega (arith, old_counts.counted, ap length c.lays.numbers, length-map images (λ (image : PageImage). image.page), made.1, ap (λ (n : ℕ). (log_of pair n).frames) made.0.current);
+        pages = subst (All (λ page. (1 ≤ page) × (page ≤ kept.size))) (sym indexed.pages)
+            (All-append (λ (page : ℕ). (1 ≤ page) × (page ≤ kept.size)) (log_in kept.index kept.pair.current).pages commit.wrote old_counts.pages c.lays.within);
+      }
       )
 
   counted_other : (log : ℕ) → log ≡ other_number kept.pair.current → IsCountedLog kept log → IsCountedLog (committed kept pair index commit) log
   counted_other log is counts = subst (IsCountedLog (committed kept pair index commit)) (sym is) (
-        let old_counts = subst (IsCountedLog kept) is counts in
-        record {
-          counted = ap length indexed.other.pages ∙ old_counts.counted ∙ sym made.0.other;
-          pages = subst (All (λ page. (1 ≤ page) × (page ≤ kept.size))) (sym indexed.other.pages) old_counts.pages;
-        }
+      let old_counts = subst (IsCountedLog kept) is counts in
+      record {
+        counted = ap length indexed.other.pages ∙ old_counts.counted ∙ sym made.0.other;
+        pages = subst (All (λ page. (1 ≤ page) × (page ≤ kept.size))) (sym indexed.other.pages) old_counts.pages;
+      }
       )
 
   counted_on : (log : ℕ) → (log ≡ kept.pair.current) ⊎ (log ≡ other_number kept.pair.current) → IsCountedLog kept log → IsCountedLog (committed kept pair index commit) log

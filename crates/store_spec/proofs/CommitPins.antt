@@ -1,6 +1,6 @@
 -- Pins of a store, once frames were added to its current log and its history grew, or a log write failed.
-use Rattle.std.proofs.Common.{◌≡◌, ◌∙◌, ℕ, zero, suc, ◌+◌, ◌-◌, ◌<◌, ◌≤◌, ◌==◌, ◌||◌, Bool, true, false, List, [], ◌∷◌, ◌++◌, length, take, drop, length-append, length-take, append-nil, refl, sym, ap, subst, inl, inr, arith, Option, Some, None, All, Contains}
-use Rattle.std.specs.Prelude.{◌⊎◌, IfSome}
+use Rattle.std.proofs.Common.{◌≡◌, ◌∙◌, ℕ, ◌+◌, ◌<◌, ◌≤◌, ◌==◌, false, List, [], ◌∷◌, ◌++◌, length, take, drop, length-append, refl, sym, ap, subst, inl, inr, arith, Some, Contains}
+use Rattle.std.specs.Prelude.{◌⊎◌}
 use Rattle.std.specs.List.{list_any}
 use Rattle.std.proofs.lemmas.Bool.{or_parts, both_ways}
 use Rattle.std.proofs.lemmas.Grind.{flat_map-append}
@@ -8,7 +8,7 @@ use Rattle.std.proofs.lemmas.List.{drop-append-le, take-append-le, take-append-d
 use Rattle.std.proofs.lemmas.List.Folds.{list_any-append}
 use Rattle.disk_face.specs.Files.{Files}
 use Rattle.disk_face.specs.Steps.{History, reads}
-use Rattle.page_spec.specs.PageMap.{PageMap, Agree}
+use Rattle.page_spec.specs.PageMap.{PageMap}
 use Rattle.log_spec.specs.Accept.{Frame}
 use Rattle.log_spec.specs.LogHeader.{LogFields}
 use Rattle.crash_spec.specs.Recovered.{overlaid}
@@ -16,18 +16,17 @@ use Rattle.engine_spec.specs.declared.commits.Commit.{Commit}
 use Rattle.engine_spec.specs.declared.commits.Mode.{Mode}
 use Rattle.engine_spec.specs.declared.commits.Mode.TheVariants.{Plain, Concurrent}
 use Rattle.engine_spec.specs.declared.pins.Pin.{Pin}
-use Rattle.engine_spec.specs.Change.{Change, laid}
+use Rattle.engine_spec.specs.Change.{laid}
 use Rattle.engine_spec.specs.Good.{HasSizes, MayLayOn}
 use Rattle.engine_spec.specs.History.{counts, is_written, NoConflict}
 use Rattle.engine_spec.specs.TwoLogs.{frames_of}
 use Rattle.engine_spec.specs.Written.{Submitted, commit_of}
 use Rattle.engine_spec.proofs.Laying.{IsWhole, CoversChange, agree_laid, agree_trans, any_there}
-use Rattle.log_pair.specs.Pair.{PairView, log_of, other_number, current_header}
-use Rattle.store_spec.specs.Store.{StoreData, current_read, other_read, newest_in, map_over, map_below, pin_map_in, pin_told, since_of, other_since_of}
-use Rattle.store_spec.specs.Pins.{PinHolds, IsOfCurrent, IsOfOther, IsFront, IsOlderFront, mark_at, part_of, full_of}
+use Rattle.log_pair.specs.Pair.{PairView, other_number, current_header}
+use Rattle.store_spec.specs.Store.{StoreData, current_read, other_read, newest_in, map_over, map_below, pin_map_in, since_of, other_since_of}
+use Rattle.store_spec.specs.Pins.{PinHolds, IsOfCurrent, IsOfOther, mark_at, part_of, full_of}
 use Rattle.store_spec.specs.Standing.{IsWholeStore}
 use Rattle.store_spec.proofs.Runs.{current_count, of_current, of_other}
-use Rattle.store_spec.proofs.Commits.{one_longer}
 use Rattle.store_spec.proofs.Writing.{IsPairOf, current_header_of}
 
 -- a part of a history has no more frames than all of it

@@ -1,11 +1,11 @@
 -- The index of a store once it has one commit more.
-use Rattle.std.proofs.Common.{◌≡◌, ◌∙◌, ℕ, zero, suc, ◌+◌, ◌-◌, ◌≤◌, ◌<◌, ◌==◌, Bool, true, false, if◌then◌else◌, List, [], ◌∷◌, ◌++◌, length, take, drop, length-append, length-take, length-drop, append-nil, add-one, refl, sym, ap, subst, inl, inr, arith, Contains, All}
+use Rattle.std.proofs.Common.{◌≡◌, ◌∙◌, ℕ, zero, suc, ◌+◌, ◌-◌, Bool, true, false, if◌then◌else◌, List, [], ◌∷◌, ◌++◌, length, take, drop, length-append, length-drop, append-nil, add-one, refl, sym, ap, subst, inl, inr, arith, Contains}
 use Rattle.std.specs.Prelude.{◌⊎◌}
 use Rattle.std.proofs.lemmas.List.{drop-append-le, take-append-le}
 use Rattle.std.proofs.lemmas.List.Elements.{All-append, All-cons, All-nil}
 use Rattle.std.proofs.lemmas.Grind.{flat_map-append}
 use Rattle.engine_spec.specs.declared.commits.Commit.{Commit}
-use Rattle.engine_spec.specs.TwoLogs.{TwoLogs, AreLogs, frames_of, other_log}
+use Rattle.engine_spec.specs.TwoLogs.{TwoLogs, AreLogs, frames_of}
 use Rattle.engine_spec.specs.Written.{numbers_from}
 use Rattle.wal_index.specs.Index.{Indexed, IndexedLog, log_in}
 use Rattle.wal_rules.specs.Indexing.{HoldsCommits, IsIndexOf, ends_of, tails_of}

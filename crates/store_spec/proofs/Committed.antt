@@ -1,11 +1,10 @@
 -- A commit of a store is written to its current log, or fails in writing: what is opened, what is told, and what a crash leaves.
-use Rattle.std.proofs.Common.{◌≡◌, ◌∙◌, ℕ, ◌+◌, ◌≤◌, ◌<◌, ◌^◌, Bool, true, false, List, [], ◌∷◌, ◌++◌, length, map, refl, sym, ap, subst, inl, inr, arith, Option, Some, None, All, Contains}
+use Rattle.std.proofs.Common.{◌≡◌, ◌∙◌, ℕ, ◌≤◌, ◌<◌, ◌^◌, Bool, true, false, List, [], ◌∷◌, ◌++◌, length, map, refl, sym, ap, subst, inl, inr, arith, Option, Some, None, All, Contains}
 use Rattle.std.specs.Prelude.{◌⊎◌, IfSome}
 use Rattle.std.specs.Option.{option_map}
 use Rattle.disk_face.specs.declared.step.Step.{Step}
-use Rattle.disk_face.specs.declared.step.Step.TheVariants.{Synced}
 use Rattle.disk_face.specs.Files.{Files}
-use Rattle.disk_face.specs.Steps.{History, reads, after}
+use Rattle.disk_face.specs.Steps.{History, reads}
 use Rattle.page_spec.specs.PageMap.{PageMap}
 use Rattle.log_spec.specs.Accept.{Frame, page_numbers}
 use Rattle.crash_spec.specs.Logs.{IsWhole}
@@ -24,7 +23,7 @@ use Rattle.wal_index.specs.Index.{Indexed}
 use Rattle.log_pair.specs.Pair.{PairView, log_of, current_file, current_header}
 use Rattle.log_pair.proofs.Standing.{since_weaker}
 use Rattle.log_commit.specs.GoesBy.{GoesBy}
-use Rattle.log_commit.specs.Commit.{map_under, FitsMap, IsCommitStep, StandsAs, IsCommittedTo, MayCome, LeavesEither, AreFramesOf, with_more, with_appended}
+use Rattle.log_commit.specs.Commit.{map_under, FitsMap, IsCommitStep, StandsAs, IsCommittedTo, MayCome, LeavesEither, AreFramesOf}
 use Rattle.log_commit.proofs.SinceSteps.{since_goes, since_both, whole_since}
 use Rattle.store_spec.specs.Store.{StoreData, KeptStop, current_read, other_read, newest_in, newest_told, stop_map, stop_told, store_state, view_of}
 use Rattle.store_spec.specs.Standing.{IsStoreOn, StandsOn, IsOpenedAt}

@@ -1,47 +1,30 @@
 -- A store stays live over a commit that is written, or fails in writing.
-use Rattle.std.proofs.Common.{◌≡◌, ◌∙◌, ℕ, zero, suc, ◌+◌, ◌-◌, ◌*◌, ◌<◌, ◌≤◌, ◌^◌, ◌==◌, Bool, true, false, List, [], ◌∷◌, ◌++◌, length, map, take, drop, get_or, length-append, append-nil, refl, sym, ap, subst, inl, inr, arith, Option, Some, None, All, Contains}
-use Rattle.std.specs.Prelude.{◌⊎◌, IfSome}
-use Rattle.std.specs.Option.{option_map}
-use Rattle.std.proofs.lemmas.Bool.{cases_lt}
-use Rattle.std.proofs.lemmas.List.{take_all, take-append-le, length-map}
-use Rattle.std.proofs.lemmas.List.Elements.{All-append, Contains-get_or}
-use Rattle.disk_face.specs.declared.disk.File.TheVariants.{Main, Log1, Log2}
-use Rattle.disk_face.specs.Files.{Files, content}
+use Rattle.std.proofs.Common.{◌≡◌, ◌∙◌, ℕ, ◌-◌, ◌≤◌, Bool, true, false, List, [], ◌∷◌, length, append-nil, refl, sym, ap, subst, inl, inr, arith, Option, Some, None}
+use Rattle.std.specs.Prelude.{◌⊎◌}
 use Rattle.disk_face.specs.Steps.{History, reads}
 use Rattle.page_spec.specs.PageMap.{PageMap}
-use Rattle.log_spec.specs.Accept.{Frame, page_numbers}
-use Rattle.log_spec.specs.LogHeader.{LogFields}
-use Rattle.log_spec.specs.Frames.{frame_place}
-use Rattle.crash_spec.specs.Opening.{Opening, Since}
+use Rattle.crash_spec.specs.Opening.{Opening}
 use Rattle.engine_spec.specs.declared.commits.Commit.{Commit}
-use Rattle.engine_spec.specs.declared.commits.Mode.{Mode}
-use Rattle.engine_spec.specs.declared.commits.Mode.TheVariants.{Plain}
 use Rattle.engine_spec.specs.declared.commits.PageImage.{PageImage}
 use Rattle.engine_spec.specs.declared.pins.Pin.{Pin}
 use Rattle.engine_spec.specs.declared.pins.Readers.{Readers}
-use Rattle.engine_spec.specs.Change.{Change, laid}
-use Rattle.engine_spec.specs.Good.{HasSizes, MayLayOn}
-use Rattle.engine_spec.specs.History.{counts, NoConflict, statements_of, SnapsBefore}
-use Rattle.engine_spec.specs.TwoLogs.{TwoLogs, holders}
+use Rattle.engine_spec.specs.Change.{laid}
+use Rattle.engine_spec.specs.Good.{MayLayOn}
+use Rattle.engine_spec.specs.History.{counts}
 use Rattle.engine_spec.specs.Written.{Submitted, commit_of, Writes}
-use Rattle.engine_spec.proofs.Laying.{IsWhole, CoversChange, covers, laid-length, laid-whole, legal_size}
-use Rattle.wal_index.specs.Index.{Indexed, IndexedLog, log_in}
-use Rattle.wal_rules.specs.Indexing.{IsIndexOf}
-use Rattle.log_pair.specs.Pair.{PairView, IsPair, log_of, other_number, current_file, current_header}
-use Rattle.log_pair.specs.Switch.{other_file}
-use Rattle.log_commit.specs.Commit.{IsCommitStep, map_under}
-use Rattle.store_spec.specs.Store.{StoreData, KeptStop, current_read, other_read, newest_in, newest_told, pin_told, pin_map_in, map_over, map_below, since_of, other_since_of, two_logs}
-use Rattle.store_spec.specs.Pins.{PinHolds, IsOfCurrent, IsOfOther, IsFront, IsOlderFront, mark_at}
-use Rattle.store_spec.specs.Standing.{IsWholeStore, IsCountedLog, IsReadable, IsLiveStore, StandsFrom, IsOpenedAt, IsStoreOn}
+use Rattle.engine_spec.proofs.Laying.{IsWhole, covers, legal_size}
+use Rattle.wal_index.specs.Index.{Indexed, log_in}
+use Rattle.log_pair.specs.Pair.{PairView, IsPair, other_number, current_file, current_header}
+use Rattle.log_commit.specs.Commit.{IsCommitStep}
+use Rattle.store_spec.specs.Store.{StoreData, KeptStop, current_read, newest_in, newest_told, pin_told, pin_map_in}
+use Rattle.store_spec.specs.Pins.{PinHolds, IsOfCurrent, IsOfOther}
+use Rattle.store_spec.specs.Standing.{IsWholeStore, IsLiveStore, IsOpenedAt}
 use Rattle.store_spec.specs.Steps.{HasWritten, HasIndexed, committed, stopped}
-use Rattle.store_spec.proofs.Commits.{since_same, other_since_same, index_keeps}
+use Rattle.store_spec.proofs.Commits.{since_same, other_since_same}
 use Rattle.store_spec.proofs.Committed as written
 use Rattle.store_spec.proofs.Committed.{IsLaid, MayWriteOn, still_told, same_pair, still_pair, is_done, on_way, IsDone, IsOnWay, more_numbers, opened_committed, opened_stopped, newest_committed, newest_stopped}
-use Rattle.store_spec.proofs.CommitPins.{HasRead, HasBegun, GoesOnFrom, pin_stays, place_on, pin_holds_on, no_conflict_before, may_lay_on, front_stays, below_stays, mark_stays, other_mark_stays}
-use Rattle.store_spec.proofs.FramesStand.{at_told, current_reach, other_reach}
-use Rattle.store_spec.proofs.Runs.{newest_is_front}
-use Rattle.store_spec.proofs.Writing as writing
-use Rattle.store_spec.proofs.Writing.{IsPairOf, pair_more, pair_appended, current_header_of, other_header_of, other_frames_of, header_of, committed_view, stopped_view}
+use Rattle.store_spec.proofs.CommitPins.{HasRead, HasBegun, GoesOnFrom, pin_stays, place_on, pin_holds_on, no_conflict_before, may_lay_on}
+use Rattle.store_spec.proofs.Writing.{pair_more, pair_appended}
 
 -- A commit was written to the current log of a store, or failed in writing.
 pub record IsCommitting (kept : StoreData) (ok : Bool) (images : List PageImage) (pair : PairView) (asked : Submitted) (commit : Commit) (old new : Option History) : Type 0 where

@@ -1,41 +1,34 @@
 -- A store that is running, while the frames of a commit are written to its current log: what stays.
-use Rattle.std.proofs.Common.{◌≡◌, ◌∙◌, ℕ, ◌+◌, ◌≤◌, ◌<◌, ◌^◌, ◌==◌, Bool, true, false, if◌then◌else◌, List, [], ◌∷◌, ◌++◌, length, map, refl, sym, ap, subst, inl, inr, arith, Option, Some, None, All, IsSome}
+use Rattle.std.proofs.Common.{◌≡◌, ◌∙◌, ℕ, ◌+◌, ◌≤◌, ◌<◌, ◌^◌, ◌==◌, Bool, true, false, if◌then◌else◌, List, [], ◌++◌, length, refl, sym, ap, subst, inl, inr, arith, Option, None, All, IsSome}
 use Rattle.std.specs.Prelude.{◌⊎◌, MatchOption}
 use Rattle.std.proofs.lemmas.List.{map-append}
-use Rattle.disk_face.specs.declared.disk.File.{File}
 use Rattle.disk_face.specs.declared.disk.File.TheVariants.{Main, Log1, Log2}
 use Rattle.disk_face.specs.declared.step.Step.{Step}
-use Rattle.disk_face.specs.declared.step.Step.TheVariants.{Synced}
 use Rattle.disk_face.specs.Files.{Files, content}
 use Rattle.disk_face.specs.Image.{same_file}
-use Rattle.disk_face.specs.Steps.{History, reads, after}
+use Rattle.disk_face.specs.Steps.{History, reads}
 use Rattle.page_spec.specs.PageMap.{PageMap}
 use Rattle.log_spec.specs.LogHeader.{LogFields, header_size}
-use Rattle.log_spec.specs.Frames.{end_of}
 use Rattle.log_spec.specs.Accept.{Frame, page_numbers, page_number}
 use Rattle.crash_spec.specs.Elsewhere.{IsElsewhere}
-use Rattle.crash_spec.specs.Logs.{IsWhole, IsOnDisk}
-use Rattle.crash_spec.specs.Opening.{Opening, Since, grown}
-use Rattle.crash_spec.specs.Passes.{Passes, ByAnswer}
+use Rattle.crash_spec.specs.Logs.{IsWhole}
+use Rattle.crash_spec.specs.Opening.{Opening, grown}
 use Rattle.crash_spec.specs.Recovered.{page_after_frames, main_page}
-use Rattle.crash_spec.specs.Store.{StoreView, Holds, AreOnDisk}
+use Rattle.crash_spec.specs.Store.{StoreView, AreOnDisk}
 use Rattle.engine_spec.specs.declared.commits.Commit.{Commit}
-use Rattle.engine_spec.specs.declared.commits.PageImage.{PageImage}
 use Rattle.wal_frames.specs.Found.{log_file}
-use Rattle.wal_index.specs.Index.{Indexed, IndexedLog, log_in}
-use Rattle.log_pair.specs.Pair.{PairView, LogView, log_of, other_number, current_file, current_header, with_log}
-use Rattle.log_pair.specs.Switch.{other_file, IsStoreOf}
-use Rattle.log_pair.specs.Appending.{LogStands, HasFrames}
-use Rattle.log_pair.proofs.Standing.{since_weaker}
-use Rattle.log_commit.specs.GoesBy.{GoesBy}
-use Rattle.log_commit.specs.Commit.{map_under, FitsMap, IsCommitStep, StandsAs, IsCommittedTo, MayCome, LeavesEither, with_frames, with_pending, with_more, with_appended, AreFramesOf}
+use Rattle.wal_index.specs.Index.{Indexed, log_in}
+use Rattle.log_pair.specs.Pair.{PairView, log_of, other_number, current_file, current_header}
+use Rattle.log_pair.specs.Switch.{other_file}
+use Rattle.log_pair.specs.Appending.{LogStands}
+use Rattle.log_commit.specs.Commit.{map_under, IsCommitStep, StandsAs, IsCommittedTo, MayCome, with_frames, with_pending, with_more, with_appended}
 use Rattle.log_commit.specs.Fronts.{HasFront}
-use Rattle.log_commit.proofs.SinceSteps.{commits_elsewhere, content_goes, whole_goes, since_goes, since_both, whole_since}
+use Rattle.log_commit.proofs.SinceSteps.{commits_elsewhere, content_goes, whole_goes}
 use Rattle.log_commit.proofs.FrontLaws.{front_commits, front_beside}
 use Rattle.store_spec.specs.Store.{StoreData, KeptStop, current_read, other_read, newest_in, view_of}
-use Rattle.store_spec.specs.Standing.{IsRunning, IsStoreOn, IsTornOn, StandsOn, IsOpenedAt, AreCopied, AreThereBoth, AreFronts}
-use Rattle.store_spec.specs.Steps.{HasWritten, HasIndexed, committed, stopped}
-use Rattle.store_spec.proofs.FramesStand.{since_told, at_told, IsViewOf, current_is, current_has, other_is_read, other_has, newest_is, holds_view}
+use Rattle.store_spec.specs.Standing.{IsRunning, IsStoreOn, StandsOn, AreCopied, AreFronts}
+use Rattle.store_spec.specs.Steps.{HasIndexed, committed, stopped}
+use Rattle.store_spec.proofs.FramesStand.{IsViewOf, current_is, current_has, other_is_read, other_has, newest_is, holds_view}
 use Rattle.store_spec.proofs.Runs.{frames_in-length}
 
 -- The logs of a pair are those of another, but for frames of the current one.
