@@ -99,7 +99,7 @@ module _ (kept : StoreData) (images : List PageImage) (pair : PairView) (index :
   }
 
 -- the logs of a store whose pair has the same
-stopped_logs : (kept : StoreData) (pair : PairView) (stop : KeptStop) → IsPairOf kept.pair pair → GoesOnFrom kept (stopped kept pair stop) [] → two_logs (stopped kept pair stop) ≡ two_logs kept
+pub stopped_logs : (kept : StoreData) (pair : PairView) (stop : KeptStop) → IsPairOf kept.pair pair → GoesOnFrom kept (stopped kept pair stop) [] → two_logs (stopped kept pair stop) ≡ two_logs kept
 stopped_logs kept pair stop same goes = λ i. record {
   current = same.current i;
   generation = (current_header_of kept.pair pair same i).generation;

@@ -32,7 +32,7 @@ other_since_same kept pair commit index same has =
     ∙ ap (λ (numbers : List ℕ). since_of kept - length numbers) has.other.numbers
 
 -- what a log's index holds of commits with one more
-numbers-more : (from count : ℕ) → numbers_from from (suc count) ≡ numbers_from from count ++ (from + count) ∷ []
+pub numbers-more : (from count : ℕ) → numbers_from from (suc count) ≡ numbers_from from count ++ (from + count) ∷ []
 numbers-more from zero = ap (λ (n : ℕ). n ∷ []) (omega arith)
 numbers-more from (suc count) =
     ap (λ (rest : List ℕ). from ∷ rest)

@@ -9,3 +9,4 @@ pub mod CommitPins
 pub mod Committing
 pub mod CommitLive
 pub mod CommitRuns
+pub mod CommitAnswers
