@@ -26,6 +26,7 @@ use Rattle.log_pair.specs.Pair.{PairView, other_number, current_header}
 use Rattle.store_spec.specs.Store.{StoreData, current_read, other_read, newest_in, map_over, map_below, pin_map_in, since_of, other_since_of}
 use Rattle.store_spec.specs.Pins.{PinHolds, IsOfCurrent, IsOfOther, mark_at, part_of, full_of}
 use Rattle.store_spec.specs.Standing.{IsWholeStore}
+use Rattle.store_spec.proofs.Commits.{one_longer}
 use Rattle.store_spec.proofs.Runs.{current_count, of_current, of_other}
 use Rattle.store_spec.proofs.Writing.{IsPairOf, current_header_of}
 
@@ -164,3 +165,14 @@ pin_holds_on kept later commits told new pin goes whole begun same agrees holds 
   agrees = λ mode numbers none first.
       subst (λ (pages : PageMap). MayLayOn mode pages numbers (newest_in later.pair (reads new))) (sym same) (agrees mode numbers none first);
 }
+
+-- a store whose current log has got a commit has begun
+pub begun_after : (kept later : StoreData) (commit : Commit) → GoesOnFrom kept later (commit ∷ []) → HasBegun later
+begun_after kept later commit goes =
+    inl (omega (arith, goes.since, ap length goes.history, one_longer kept.history commit))
+
+-- where the current generation has risen, no pin that held is of the current log
+pub none_current : (kept later : StoreData) (pin : Pin) → (current_header later.pair).generation ≡ (current_header kept.pair).generation + 1
+    → IsOfCurrent kept pin ⊎ IsOfOther kept pin → IsOfCurrent later pin → ⊥
+none_current kept later pin rises (inl old) new = let one = old.generation in let two = new.generation in omega arith
+none_current kept later pin rises (inr old) new = let one = old.generation in let two = new.generation in omega arith

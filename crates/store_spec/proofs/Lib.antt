@@ -10,3 +10,4 @@ pub mod Committing
 pub mod CommitLive
 pub mod CommitRuns
 pub mod CommitAnswers
+pub mod CommitGood
