@@ -1,33 +1,32 @@
 -- What an engine needs of a commit whose frames were written, or failed in writing, where the store may have gone over to its other log before.
-use Rattle.std.proofs.Common.{◌≡◌, ◌∙◌, ℕ, zero, suc, ◌+◌, ◌<◌, ◌≤◌, Bool, true, false, if◌then◌else◌, List, [], ◌∷◌, ◌++◌, length, drop, append-nil, add-one, refl, sym, ap, subst, inl, inr, arith, Option, Some, None, Contains}
-use Rattle.std.specs.Prelude.{◌⊎◌, IfSome}
+use Rattle.std.proofs.Common.{◌≡◌, ◌∙◌, ℕ, ◌+◌, Bool, true, false, if◌then◌else◌, List, [], ◌∷◌, ◌++◌, length, drop, append-nil, add-one, refl, sym, ap, subst, arith, Option, Some, None, Contains}
+use Rattle.std.specs.Prelude.{IfSome}
 use Rattle.std.specs.Option.{option_map}
 use Rattle.std.proofs.lemmas.List.Elements.{Contains-append_left}
 use Rattle.disk_face.specs.Files.{Files}
 use Rattle.disk_face.specs.Steps.{History, reads}
-use Rattle.disk_face.specs.Image.{MayLeave}
 use Rattle.page_spec.specs.PageMap.{PageMap}
 use Rattle.log_spec.specs.Accept.{Frame}
 use Rattle.log_spec.specs.Frames.{place_behind}
 use Rattle.crash_spec.specs.Moments.{AtEachMoment}
-use Rattle.crash_spec.specs.Opening.{Opening, Since}
+use Rattle.crash_spec.specs.Opening.{Opening}
 use Rattle.crash_spec.specs.Recovered.{recovered}
-use Rattle.crash_spec.proofs.Passing.{passes_still, passes_weaker, since_join}
+use Rattle.crash_spec.proofs.Passing.{passes_still, since_join}
 use Rattle.engine_spec.specs.declared.commits.Commit.{Commit}
 use Rattle.engine_spec.specs.declared.commits.PageImage.{PageImage}
 use Rattle.engine_spec.specs.declared.pins.Pin.{Pin}
 use Rattle.engine_spec.specs.declared.pins.Readers.{Readers}
 use Rattle.engine_spec.specs.Change.{Change, laid}
-use Rattle.engine_spec.specs.Events.{IsClear, IsCommitted, IsStopped, EitherMap, map_after, logs_to_write}
+use Rattle.engine_spec.specs.Events.{IsClear, IsCommitted, IsStopped, map_after}
 use Rattle.engine_spec.specs.Leaves.{RecoversOneOf, may_recover, if_told, kept_map}
-use Rattle.engine_spec.specs.State.{EngineState, Stop}
-use Rattle.engine_spec.specs.TwoLogs.{TwoLogs, to_write, may_switch, switched, frames_of, current_frames, IsStopPlace}
+use Rattle.engine_spec.specs.State.{Stop}
+use Rattle.engine_spec.specs.TwoLogs.{to_write, may_switch, switched, frames_of, current_frames}
 use Rattle.engine_spec.specs.TwoLogs.IsStopPlace.{AtFrame}
-use Rattle.engine_spec.specs.Written.{Submitted, commit_of, Writes, numbers_from}
-use Rattle.wal_index.specs.Index.{Indexed, log_in}
+use Rattle.engine_spec.specs.Written.{Submitted, Writes, numbers_from}
+use Rattle.wal_index.specs.Index.{Indexed}
 use Rattle.log_pair.specs.Pair.{PairView, log_of, current_file, current_header}
 use Rattle.log_commit.specs.Commit.{IsCommitStep, map_under}
-use Rattle.store_spec.specs.Store.{StoreData, KeptStop, current_read, newest_in, newest_told, stop_told, stop_map, store_state, two_logs, since_of}
+use Rattle.store_spec.specs.Store.{StoreData, KeptStop, current_read, newest_in, newest_told, stop_told, store_state, two_logs, since_of}
 use Rattle.store_spec.specs.Standing.{IsWholeStore, IsLiveStore, IsOpenedAt, StandsOn}
 use Rattle.store_spec.specs.Steps.{HasIndexed, committed, stopped}
 use Rattle.store_spec.proofs.EngineLaws.{leaves_now}

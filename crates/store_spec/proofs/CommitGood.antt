@@ -1,9 +1,7 @@
 -- The run for which a store stands goes on where the change of a commit is good for it.
-use Rattle.std.proofs.Common.{◌≡◌, ◌∙◌, ℕ, ◌+◌, ◌*◌, ◌<◌, ◌≤◌, true, false, List, [], ◌∷◌, ◌++◌, length, take, append-nil, refl, sym, ap, subst, inl, inr, arith, Option, Some, None, Contains}
-use Rattle.std.specs.Prelude.{◌⊎◌, IfSome}
-use Rattle.std.specs.Option.{option_map}
+use Rattle.std.proofs.Common.{◌≡◌, ◌∙◌, ℕ, ◌*◌, ◌≤◌, true, List, [], ◌∷◌, ◌++◌, length, append-nil, sym, ap, subst, arith, Option, Some, None, Contains}
+use Rattle.std.specs.Prelude.{IfSome}
 use Rattle.std.proofs.lemmas.Grind.{flat_map-append}
-use Rattle.std.proofs.lemmas.List.Elements.{All-contains}
 use Rattle.disk_face.specs.Steps.{History, reads}
 use Rattle.page_spec.specs.Header.{database_limit}
 use Rattle.page_spec.specs.PageMap.{PageMap, page_size_of}
@@ -20,7 +18,7 @@ use Rattle.engine_spec.proofs.Laying.{page_at-length}
 use Rattle.wal_index.specs.Index.{Indexed}
 use Rattle.log_pair.specs.Pair.{PairView, current_file, current_header}
 use Rattle.log_commit.specs.Commit.{IsCommitStep}
-use Rattle.store_spec.specs.Store.{StoreData, newest_in, newest_told, pin_map_in, pin_told}
+use Rattle.store_spec.specs.Store.{StoreData, newest_in, newest_told, pin_told}
 use Rattle.store_spec.specs.Pins.{PinHolds}
 use Rattle.store_spec.specs.Standing.{IsLiveStore, StandsFrom, IsOpenedAt}
 use Rattle.store_spec.specs.Steps.{HasIndexed, committed}
@@ -60,10 +58,12 @@ module _ (sound : PageMap → Type 0) (leads : PageMap → List (List ℕ) → P
           still_told (IsCommitStep (current_file kept.pair) (current_header kept.pair)) told
           (λ (t : Option History). IfSome t (λ told. sound (newest_in pair (reads told)) × leads first (statements_of (kept.history ++ commit ∷ [])) (newest_in pair (reads told)))) new c.has.steps
           (λ later is.
-          subst (λ (map : PageMap). sound map × leads first (statements_of (kept.history ++ commit ∷ [])) map) (sym (read_committed live.opening kept images pair index asked commit told later new c indexed opened is).1)
-          (goes.0, subst (λ (texts : List (List ℕ)). leads first texts (laid (newest_in kept.pair (reads told)) asked.change))
-          (sym (ap (λ (one : Commit). statements_of (kept.history ++ one ∷ [])) c.is ∙ statements_more kept.history asked commit.wrote))
-          (joins first (newest_in kept.pair (reads told)) (laid (newest_in kept.pair (reads told)) asked.change) (statements_of kept.history) asked.said newest.1 goes.1)))
+          subst (λ (map : PageMap). sound map × leads first (statements_of (kept.history ++ commit ∷ [])) map) (sym (read_committed live.opening kept images pair index asked commit told later new c indexed opened is).1) (
+            goes.0,
+            subst (λ (texts : List (List ℕ)). leads first texts (laid (newest_in kept.pair (reads told)) asked.change))
+                (sym (ap (λ (one : Commit). statements_of (kept.history ++ one ∷ [])) c.is ∙ statements_more kept.history asked commit.wrote))
+                (joins first (newest_in kept.pair (reads told)) (laid (newest_in kept.pair (reads told)) asked.change) (statements_of kept.history) asked.said newest.1 goes.1),
+          ))
         where
           page_size : page_size_of (newest_in kept.pair (reads told)) ≡ kept.page_size
           page_size = page_at-length (newest_in kept.pair (reads told)) kept.page_size 1 sizes.each (omega arith) (let some = live.whole.some in omega (arith, sizes.count))

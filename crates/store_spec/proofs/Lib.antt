@@ -11,3 +11,4 @@ pub mod CommitLive
 pub mod CommitRuns
 pub mod CommitAnswers
 pub mod CommitGood
+pub mod CommitSalts
