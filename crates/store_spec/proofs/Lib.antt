@@ -12,3 +12,14 @@ pub mod PinLaws
 pub mod FetchLaws
 pub mod MayStep
 pub mod NamedLaws
+pub mod Commits
+pub mod FramesStand
+pub mod Writing
+pub mod Committed
+pub mod CommitPins
+pub mod Committing
+pub mod CommitLive
+pub mod CommitRuns
+pub mod CommitAnswers
+pub mod CommitGood
+pub mod CommitSalts

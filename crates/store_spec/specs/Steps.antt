@@ -1,19 +1,23 @@
 -- What the steps of a store do: what it keeps after each, by what the calls on the disk were answered.
 use Rattle.std.specs.Prelude.{◌≡◌, ℕ, ◌+◌, Bool, true, false, if◌then◌else◌, List, [], ◌∷◌, ◌++◌, length, Option, Some, Result, IfOk, OnErr}
 use Rattle.disk_face.specs.declared.Failed.{Failed}
-use Rattle.disk_face.specs.Steps.{History}
+use Rattle.disk_face.specs.declared.step.Step.TheVariants.{Synced}
+use Rattle.disk_face.specs.Steps.{History, after}
 use Rattle.log_spec.specs.Checksum.{Sum}
-use Rattle.log_spec.specs.Accept.{page_numbers}
+use Rattle.log_spec.specs.Accept.{Frame, page_numbers}
 use Rattle.crash_spec.specs.Opening.{Opening, Since}
 use Rattle.crash_spec.specs.Store.{StoreView, Holds, KeepsStore}
 use Rattle.engine_spec.specs.declared.commits.Commit.{Commit}
+use Rattle.engine_spec.specs.declared.commits.PageImage.{PageImage}
 use Rattle.engine_spec.specs.declared.pins.Ckpt.{Ckpt}
 use Rattle.engine_spec.specs.declared.pins.Readers.{Readers}
 use Rattle.wal_index.specs.Index.{Indexed, IndexedLog, log_in}
 use Rattle.wal_rules.specs.declared.state.LogState.{LogState}
-use Rattle.log_pair.specs.Pair.{PairView, other_number}
+use Rattle.log_pair.specs.Pair.{PairView, other_number, current_file, current_header}
 use Rattle.log_pair.specs.Appending.{IsReached}
 use Rattle.log_pair.specs.Switch.{Switches}
+use Rattle.log_commit.specs.GoesBy.{GoesBy}
+use Rattle.log_commit.specs.Commit.{WritesCommit, IsCommitStep}
 use Rattle.checkpoint.specs.Steps.{DoesStep, FailsIn, pages_behind, readers_behind}
 use Rattle.store_spec.specs.Store.{StoreData, KeptStop}
 
@@ -69,4 +73,13 @@ pub record HasSwitched (kept : StoreData) (ok : Bool) (pair : PairView) (salt2 :
   pub bytes : List ℕ
   pub sum : Sum
   pub switches : Switches ok kept.pair pair salt2 old new bytes sum
+  pub reached : ok ≡ true → IsReached new pair
+
+-- The frames of a commit were written to the current log and sealed, or a call failed.
+pub record HasWritten (kept : StoreData) (ok : Bool) (images : List PageImage) (pair : PairView) (old new : Option History) : Type 0 where
+  pub more : List Frame
+  pub writes : WritesCommit ok kept.pair pair images kept.size more old new
+  pub steps : GoesBy (IsCommitStep (current_file kept.pair) (current_header kept.pair)) old new
+  pub synced : ok ≡ true → (mid : Option History) × (new ≡ after (Synced (current_file kept.pair)) mid)
+      × GoesBy (IsCommitStep (current_file kept.pair) (current_header kept.pair)) old mid
   pub reached : ok ≡ true → IsReached new pair
