@@ -1,3 +1,4 @@
 pub mod EngineLaws
 pub mod Counting
 pub mod Runs
+pub mod Switching
