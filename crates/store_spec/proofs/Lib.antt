@@ -2,3 +2,4 @@ pub mod EngineLaws
 pub mod Counting
 pub mod Runs
 pub mod Switching
+pub mod Switched
