@@ -3,3 +3,4 @@ pub mod Counting
 pub mod Runs
 pub mod Switching
 pub mod Switched
+pub mod SwitchOpened

@@ -37,7 +37,7 @@ BothTold P (Some old) (Some new) = P (reads old) (reads new)
 BothTold P None (Some new) = ⊥
 BothTold P (Some old) None = ⊥
 
-other_apart : (pair : PairView) → (same_file (other_file pair) (current_file pair) ≡ false) × (same_file (other_file pair) Main ≡ false)
+pub other_apart : (pair : PairView) → (same_file (other_file pair) (current_file pair) ≡ false) × (same_file (other_file pair) Main ≡ false)
 other_apart pair = by (pair.current == 1)
   where
     by : (first : Bool) → (same_file (log_file (if first then 2 else 1)) (if first then Log1 else Log2) ≡ false) × (same_file (log_file (if first then 2 else 1)) Main ≡ false)
