@@ -4,3 +4,4 @@ pub mod Runs
 pub mod Switching
 pub mod Switched
 pub mod SwitchOpened
+pub mod SwitchIndex
