@@ -5,3 +5,4 @@ pub mod Switching
 pub mod Switched
 pub mod SwitchOpened
 pub mod SwitchIndex
+pub mod SwitchMaps

@@ -20,7 +20,7 @@ use Rattle.store_spec.proofs.Switching.{IsAllowed}
 use Rattle.store_spec.proofs.Switched.{other_of_other, new_header_is}
 
 -- the number of the other log, and of the one before that
-other_is_3 : (log : ℕ) → (log ≡ 1) ⊎ (log ≡ 2) → other_number log ≡ 3 - log
+pub other_is_3 : (log : ℕ) → (log ≡ 1) ⊎ (log ≡ 2) → other_number log ≡ 3 - log
 other_is_3 log (inl is) = rw is refl
 other_is_3 log (inr is) = rw is refl
 

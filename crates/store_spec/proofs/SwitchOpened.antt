@@ -41,12 +41,16 @@ pub record IsReady (kept : StoreData) (files : Files) : Type 0 where
   pub first : Contains (page_numbers (current_read kept.pair files)) 1
   pub copied : IsCopied kept.page_size files.main (other_read kept.pair files)
   pub sized : named_size files.main (other_read kept.pair files) (current_read kept.pair files) ≡ kept.page_size
+  pub current_pages : page_numbers (current_read kept.pair files) ≡ (log_in kept.index kept.pair.current).pages
+  pub other_pages : page_numbers (other_read kept.pair files) ≡ (log_in kept.index (other_number kept.pair.current)).pages
 
 pub ready_on : (opening : Opening) (kept : StoreData) (readers : Readers) (told : History) → IsWholeStore kept → IsAllowed kept readers → IsStoreOn opening kept told → IsReady kept (reads told)
 ready_on opening kept readers told whole allowed on = record {
   first = has_first opening kept readers told whole allowed on;
   copied = λ number from. on.there.copied number from (inr allowed.done);
   sized = on.holds.sized;
+  current_pages = on.there.current_pages;
+  other_pages = on.there.other_pages;
 }
 
 -- what holds since an opening, made weaker
