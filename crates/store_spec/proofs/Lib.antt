@@ -6,3 +6,4 @@ pub mod Switched
 pub mod SwitchOpened
 pub mod SwitchIndex
 pub mod SwitchMaps
+pub mod SwitchPins
