@@ -7,3 +7,4 @@ pub mod SwitchOpened
 pub mod SwitchIndex
 pub mod SwitchMaps
 pub mod SwitchPins
+pub mod SwitchLive

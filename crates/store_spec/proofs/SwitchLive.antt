@@ -1,0 +1,148 @@
+-- A store that has gone over to its other log, or failed in that, is whole, its pins hold, and it stands for the same runs.
+use Rattle.std.proofs.Common.{◌≡◌, ◌∙◌, ℕ, ◌+◌, ◌*◌, ◌-◌, ◌<◌, ◌≤◌, ◌==◌, ◌^◌, Bool, true, false, if◌then◌else◌, List, [], length, take, drop, refl, sym, ap, subst, inl, inr, arith, Contains, All, Option, Some, None}
+use Rattle.std.specs.Prelude.{◌⊎◌, IfSome, IsTrue}
+use Rattle.std.proofs.lemmas.Bool.Decides.{nat_tests}
+use Rattle.std.proofs.lemmas.List.{take_all}
+use Rattle.std.proofs.lemmas.List.Elements.{All-nil, All-weaker, All-contains_itself}
+use Rattle.disk_face.specs.declared.disk.File.{File}
+use Rattle.disk_face.specs.declared.disk.File.TheVariants.{Main, Log1, Log2}
+use Rattle.disk_face.specs.Files.{Files, content}
+use Rattle.disk_face.specs.Steps.{History, reads}
+use Rattle.disk_face.specs.Told.{IsInside}
+use Rattle.page_spec.specs.Header.{is_page_size}
+use Rattle.page_spec.specs.PageMap.{PageMap}
+use Rattle.log_spec.specs.Checksum.{Sum}
+use Rattle.log_spec.specs.LogHeader.{LogFields, is_generation, last_generation, header_size}
+use Rattle.log_spec.specs.Accept.{Frame}
+use Rattle.log_spec.specs.Frames.{frame_place}
+use Rattle.crash_spec.specs.Opening.{Opening}
+use Rattle.crash_spec.specs.Recovered.{overlaid}
+use Rattle.engine_spec.specs.declared.commits.Commit.{Commit}
+use Rattle.engine_spec.specs.declared.pins.Pin.{Pin}
+use Rattle.engine_spec.specs.declared.pins.Readers.{Readers}
+use Rattle.engine_spec.specs.Good.{HasSizes}
+use Rattle.engine_spec.specs.History.{statements_of}
+use Rattle.wal_frames.specs.Found.{log_file}
+use Rattle.wal_index.specs.Index.{Indexed, log_in}
+use Rattle.log_pair.specs.Pair.{PairView, LogView, IsPair, IsLegalLog, log_of, other_number, current_file, current_header, switched_pair}
+use Rattle.log_pair.specs.Switch.{next_header, other_file}
+use Rattle.store_spec.specs.Store.{StoreData, KeptStop, current_read, other_read, newest_in, map_over, map_below, newest_told, two_logs, since_of, other_since_of}
+use Rattle.store_spec.specs.Pins.{PinHolds, IsFront, IsOlderFront, mark_at}
+use Rattle.store_spec.specs.Steps.{HasCleared, HasSwitched, gone_over, stopped}
+use Rattle.store_spec.specs.Standing.{IsWholeStore, IsCountedLog, IsReadable, IsLiveStore, StandsFrom}
+use Rattle.store_spec.proofs.Runs.{counted_of}
+use Rattle.store_spec.proofs.Switching.{IsAllowed}
+use Rattle.store_spec.proofs.Switched.{FrontAlone, BothTold, switch_keeps, newest_alone, newest_over, other_of_other, new_log_is, old_log_is, new_header_is, new_none, back_log_is}
+use Rattle.store_spec.proofs.SwitchIndex.{index_over, since_over}
+use Rattle.store_spec.proofs.SwitchMaps.{AreNamed, front_below, over_alone, below_alone}
+use Rattle.store_spec.proofs.SwitchOpened.{IsReady, files_ready, opened_over, opened_torn}
+use Rattle.store_spec.proofs.SwitchPins.{newest_over_told, newest_torn_told, newer_front, same_mark, pin_holds_over, pin_holds_torn}
+
+-- what holds of the current log and of the other one holds of log 1, and of log 2
+one_of_both : (P : ℕ → Type 0) (log : ℕ) → (log ≡ 1) ⊎ (log ≡ 2) → P log → P (other_number log) → P 1 × P 2
+one_of_both P log (inl is) current other = (subst P is current, subst (λ (n : ℕ). P (other_number n)) is other)
+one_of_both P log (inr is) current other = (subst (λ (n : ℕ). P (other_number n)) is other, subst P is current)
+
+-- the next generation is one of the other log
+next_generation : (current generation : ℕ) → (current ≡ 1) ⊎ (current ≡ 2) → is_generation current generation ≡ true → generation < last_generation
+    → is_generation (other_number current) (generation + 1) ≡ true
+unfolding is_generation
+next_generation current generation (inl is) legal less = rw is (let from = rw is at legal in grind (arith, nat_tests))
+next_generation current generation (inr is) legal less = rw is (let from = rw is at legal in grind (arith, nat_tests))
+
+-- headers are legal, each in its log, and for pages of one size
+legal_of : (pair : PairView) → IsPair pair → IsLegalLog pair.current (log_of pair pair.current)
+legal_of pair is = elim is.which [
+  | inl one ↦ subst (λ (log : ℕ). IsLegalLog log (log_of pair log)) (sym one) is.one
+  | inr two ↦ subst (λ (log : ℕ). IsLegalLog log (log_of pair log)) (sym two) is.two
+]
+
+module _ (kept : StoreData) (readers : Readers) (whole : IsWholeStore kept) (allowed : IsAllowed kept readers) (none : kept.stop ≡ None) (salt2 : ℕ) (sum : Sum) (index : Indexed) (cleared : HasCleared kept index) where
+  abbrev header : LogFields
+  header = next_header kept.pair salt2 sum
+
+  abbrev over : PairView
+  over = switched_pair kept.pair header
+
+  new_legal : IsLegalLog (other_number kept.pair.current) (log_of over (other_number kept.pair.current))
+  new_legal =
+      let legal = legal_of kept.pair whole.pair in
+      subst (IsLegalLog (other_number kept.pair.current)) (sym (new_log_is kept.pair header)) (record {
+        page_size = legal.page_size;
+        generation = next_generation kept.pair.current (current_header kept.pair).generation whole.pair.which legal.generation allowed.few;
+      })
+
+  old_legal : IsLegalLog kept.pair.current (log_of over kept.pair.current)
+  old_legal = subst (IsLegalLog kept.pair.current) (sym (old_log_is kept.pair header)) (legal_of kept.pair whole.pair)
+
+  pair_over : IsPair over
+  pair_over =
+      let both = one_of_both (λ (log : ℕ). IsLegalLog log (log_of over log)) kept.pair.current whole.pair.which old_legal new_legal in
+      record {
+        which = elim whole.pair.which [ inl one ↦ inr (ap other_number one) | inr two ↦ inl (ap other_number two) ];
+        one = both.0;
+        two = both.1;
+        same_size = elim whole.pair.which [
+          | inl one ↦ (let new = new_size one in let old = old_size one in new ∙ sym old)
+          | inr two ↦ (let new = new_size two in let old = old_size two in old ∙ sym new)
+        ];
+        counted = omega (arith, ap (λ (log : LogView). log.frames) (new_log_is kept.pair header), whole.sealed none);
+      }
+    where
+      new_size : {log : ℕ} → kept.pair.current ≡ log → (log_of over (other_number log)).header.page_size ≡ (current_header kept.pair).page_size
+      new_size {log} is = subst (λ (n : ℕ). (log_of over (other_number n)).header.page_size ≡ (current_header kept.pair).page_size) is (ap (λ (view : LogView). view.header.page_size) (new_log_is kept.pair header))
+
+      old_size : {log : ℕ} → kept.pair.current ≡ log → (log_of over log).header.page_size ≡ (current_header kept.pair).page_size
+      old_size {log} is = subst (λ (n : ℕ). (log_of over n).header.page_size ≡ (current_header kept.pair).page_size) is (ap (λ (view : LogView). view.header.page_size) (old_log_is kept.pair header))
+
+  counted_new : IsCountedLog (gone_over kept over index) (other_number kept.pair.current)
+  counted_new = record {
+    counted = ap (λ (pages : List ℕ). length pages) cleared.pages ∙ sym (ap (λ (log : LogView). log.frames) (new_log_is kept.pair header));
+    pages = subst (λ (pages : List ℕ). All (λ page. (1 ≤ page) × (page ≤ kept.size)) pages) (sym cleared.pages) (All-nil (λ page. (1 ≤ page) × (page ≤ kept.size)));
+  }
+
+  counted_old : IsCountedLog (gone_over kept over index) kept.pair.current
+  counted_old =
+      let before = counted_of kept kept.pair.current whole whole.pair.which in
+      record {
+        counted = ap (λ (pages : List ℕ). length pages) cleared.current.pages ∙ before.counted ∙ sym (ap (λ (log : LogView). log.frames) (old_log_is kept.pair header));
+        pages = subst (λ (pages : List ℕ). All (λ page. (1 ≤ page) × (page ≤ kept.size)) pages) (sym cleared.current.pages) before.pages;
+      }
+
+  -- What it keeps in memory fits together.
+  pub whole_over : IsWholeStore (gone_over kept over index)
+  whole_over =
+      let both = one_of_both (IsCountedLog (gone_over kept over index)) kept.pair.current whole.pair.which counted_old counted_new in
+      record {
+        legal = whole.legal;
+        usable = whole.usable;
+        some = whole.some;
+        fits = whole.fits;
+        limit = whole.limit;
+        pair = pair_over;
+        page_size = ap (λ (h : LogFields). h.page_size) (new_header_is kept.pair header) ∙ whole.page_size;
+        rising = omega (arith, ap (λ (log : LogView). log.header.generation) (back_log_is kept.pair header whole.pair.which), ap (λ (h : LogFields). h.generation) (new_header_is kept.pair header));
+        current = refl;
+        index = index_over kept readers whole allowed salt2 sum index cleared;
+        log1 = both.0;
+        log2 = both.1;
+        sealed = λ still. whole.sealed none;
+      }
+
+-- and so it does where the switch failed
+pub whole_torn : (kept : StoreData) (stop : KeptStop) → kept.stop ≡ None → IsWholeStore kept → IsWholeStore (stopped kept kept.pair stop)
+whole_torn kept stop none whole = record {
+  legal = whole.legal;
+  usable = whole.usable;
+  some = whole.some;
+  fits = whole.fits;
+  limit = whole.limit;
+  pair = whole.pair;
+  page_size = whole.page_size;
+  rising = whole.rising;
+  current = whole.current;
+  index = whole.index;
+  log1 = record { counted = whole.log1.counted; pages = whole.log1.pages };
+  log2 = record { counted = whole.log2.counted; pages = whole.log2.pages };
+  sealed = λ still. whole.sealed none;
+}
