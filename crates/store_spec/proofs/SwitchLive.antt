@@ -3,7 +3,7 @@ use Rattle.std.proofs.Common.{◌≡◌, ◌∙◌, ℕ, ◌+◌, ◌*◌, ◌-�
 use Rattle.std.specs.Prelude.{◌⊎◌, IfSome, IsTrue}
 use Rattle.std.proofs.lemmas.Bool.Decides.{nat_tests}
 use Rattle.std.proofs.lemmas.List.{take_all}
-use Rattle.std.proofs.lemmas.List.Elements.{All-nil, All-weaker, All-contains_itself}
+use Rattle.std.proofs.lemmas.List.Elements.{All-nil, All-weaker, All-contains, All-contains_itself}
 use Rattle.disk_face.specs.declared.disk.File.{File}
 use Rattle.disk_face.specs.declared.disk.File.TheVariants.{Main, Log1, Log2}
 use Rattle.disk_face.specs.Files.{Files, content}
@@ -29,7 +29,7 @@ use Rattle.log_pair.specs.Switch.{next_header, other_file}
 use Rattle.store_spec.specs.Store.{StoreData, KeptStop, current_read, other_read, newest_in, map_over, map_below, newest_told, two_logs, since_of, other_since_of}
 use Rattle.store_spec.specs.Pins.{PinHolds, IsFront, IsOlderFront, mark_at}
 use Rattle.store_spec.specs.Steps.{HasCleared, HasSwitched, gone_over, stopped}
-use Rattle.store_spec.specs.Standing.{IsWholeStore, IsCountedLog, IsReadable, IsLiveStore, StandsFrom}
+use Rattle.store_spec.specs.Standing.{IsWholeStore, IsCountedLog, IsReadable, IsOpenedAt, IsLiveStore, StandsFrom}
 use Rattle.store_spec.proofs.Runs.{counted_of}
 use Rattle.store_spec.proofs.Switching.{IsAllowed}
 use Rattle.store_spec.proofs.Switched.{FrontAlone, BothTold, switch_keeps, newest_alone, newest_over, other_of_other, new_log_is, old_log_is, new_header_is, new_none, back_log_is}
@@ -146,3 +146,90 @@ whole_torn kept stop none whole = record {
   log2 = record { counted = whole.log2.counted; pages = whole.log2.pages };
   sealed = λ still. whole.sealed none;
 }
+
+-- the files reach as far as the store reads of a log
+reach_of : (kept : StoreData) (told : Option History) (log : ℕ) → (log ≡ 1) ⊎ (log ≡ 2) → IsReadable kept told
+    → IsInside told (log_file log) (frame_place (log_of kept.pair log).header (log_of kept.pair log).frames) 0
+reach_of kept told log (inl is) readable = subst (λ (n : ℕ). IsInside told (log_file n) (frame_place (log_of kept.pair n).header (log_of kept.pair n).frames) 0) (sym is) readable.log1
+reach_of kept told log (inr is) readable = subst (λ (n : ℕ). IsInside told (log_file n) (frame_place (log_of kept.pair n).header (log_of kept.pair n).frames) 0) (sym is) readable.log2
+
+other_which : (log : ℕ) → (log ≡ 1) ⊎ (log ≡ 2) → (other_number log ≡ 1) ⊎ (other_number log ≡ 2)
+other_which log (inl is) = inr (ap other_number is)
+other_which log (inr is) = inl (ap other_number is)
+
+pub readable_over : (kept : StoreData) (header : LogFields) (index : Indexed) (old new : Option History) → IsWholeStore kept → BothTold (FrontAlone kept.pair) old new → IsReadable kept old
+    → IsReadable (gone_over kept (switched_pair kept.pair header) index) new
+readable_over kept header index None None whole alone readable = record { log1 = tt; log2 = tt; main = tt }
+readable_over kept header index None (Some later) whole alone readable = absurd alone
+readable_over kept header index (Some told) None whole alone readable = absurd alone
+readable_over kept header index (Some told) (Some later) whole alone readable =
+    let far = reach_of kept (Some told) kept.pair.current whole.pair.which readable in
+    let near = reach_of kept (Some told) (other_number kept.pair.current) (other_which kept.pair.current whole.pair.which) readable in
+    let both = one_of_both
+        (λ (log : ℕ). frame_place (log_of (switched_pair kept.pair header) log).header (log_of (switched_pair kept.pair header) log).frames + 0 ≤ length (content (reads later) (log_file log)))
+        kept.pair.current whole.pair.which
+        (subst (λ (view : LogView). frame_place view.header view.frames + 0 ≤ length (content (reads later) (current_file kept.pair))) (sym (old_log_is kept.pair header))
+        (subst (λ (bytes : List ℕ). frame_place (current_header kept.pair) (log_of kept.pair kept.pair.current).frames + 0 ≤ length bytes) (sym alone.current) far))
+        (subst (λ (view : LogView). frame_place view.header view.frames + 0 ≤ length (content (reads later) (other_file kept.pair))) (sym (new_log_is kept.pair header))
+        (let long = alone.no_shorter in omega arith)) in
+    record {
+      log1 = both.0;
+      log2 = both.1;
+      main = subst (λ (main : List ℕ). kept.size * kept.page_size + 0 ≤ length main) (sym alone.main) readable.main;
+    }
+
+pub readable_torn : (kept : StoreData) (stop : KeptStop) (old new : Option History) → IsWholeStore kept → BothTold (FrontAlone kept.pair) old new → IsReadable kept old
+    → IsReadable (stopped kept kept.pair stop) new
+readable_torn kept stop None None whole alone readable = record { log1 = tt; log2 = tt; main = tt }
+readable_torn kept stop None (Some later) whole alone readable = absurd alone
+readable_torn kept stop (Some told) None whole alone readable = absurd alone
+readable_torn kept stop (Some told) (Some later) whole alone readable =
+    let far = reach_of kept (Some told) kept.pair.current whole.pair.which readable in
+    let near = reach_of kept (Some told) (other_number kept.pair.current) (other_which kept.pair.current whole.pair.which) readable in
+    let both = one_of_both
+        (λ (log : ℕ). frame_place (log_of kept.pair log).header (log_of kept.pair log).frames + 0 ≤ length (content (reads later) (log_file log)))
+        kept.pair.current whole.pair.which
+        (subst (λ (bytes : List ℕ). frame_place (current_header kept.pair) (log_of kept.pair kept.pair.current).frames + 0 ≤ length bytes) (sym alone.current) far)
+        (let long = alone.no_shorter in omega arith) in
+    record {
+      log1 = both.0;
+      log2 = both.1;
+      main = subst (λ (main : List ℕ). kept.size * kept.page_size + 0 ≤ length main) (sym alone.main) readable.main;
+    }
+
+module _ (kept : StoreData) (readers : Readers) (pins : List Pin) (salt2 : ℕ) (old new : Option History) (live : IsLiveStore old kept readers pins) (none : kept.stop ≡ None)
+    (allowed : IsAllowed kept readers) where
+  -- The store that has gone over is live, with the same pins.
+  pub live_over : (pair : PairView) (index : Indexed) → HasCleared kept index → HasSwitched kept true pair salt2 old new
+      → IfSome old (λ told. AreNamed kept.page_size (current_read kept.pair (reads told))) → IsLiveStore new (gone_over kept pair index) readers pins
+  live_over pair index cleared has named =
+      let alone = switch_keeps true kept.pair has.bytes old new has.switches.is.whole has.switches.steps in
+      let ready = files_ready kept readers none live.whole allowed live.opening old live.opened in
+      subst (λ (p : PairView). IsLiveStore new (gone_over kept p index) readers pins) (sym has.switches.becomes) (record {
+        whole = whole_over kept readers live.whole allowed none salt2 has.sum index cleared;
+        readable = readable_over kept (next_header kept.pair salt2 has.sum) index old new live.whole alone live.readable;
+        sizes = subst (λ (pages : Option PageMap). IfSome pages (λ pages. HasSizes pages kept.size kept.page_size))
+            (sym (newest_over_told kept readers live.whole allowed salt2 has.sum index cleared old new alone ready)) live.sizes;
+        hold = All-weaker (Contains pins) (PinHolds new (gone_over kept (switched_pair kept.pair (next_header kept.pair salt2 has.sum)) index))
+            (λ pin there. pin_holds_over kept readers live.whole allowed salt2 has.sum index cleared old new alone ready named pins live.counted pin there
+            (All-contains (PinHolds old kept) pins pin live.hold there)) pins (All-contains_itself pins);
+        counted = live.counted;
+        opening = live.opening;
+        opened = subst (λ (p : PairView). IsOpenedAt live.opening (gone_over kept p index) new) has.switches.becomes
+            (opened_over kept readers none live.whole allowed live.opening pair salt2 index old new cleared has live.opened);
+      })
+
+  -- And so is one that failed in that.
+  pub live_torn : (pair : PairView) (stop : KeptStop) → HasSwitched kept false pair salt2 old new → IsLiveStore new (stopped kept pair stop) readers pins
+  live_torn pair stop has =
+      let alone = switch_keeps false kept.pair has.bytes old new has.switches.is.whole has.switches.steps in
+      subst (λ (p : PairView). IsLiveStore new (stopped kept p stop) readers pins) (sym has.switches.becomes) (record {
+        whole = whole_torn kept stop none live.whole;
+        readable = readable_torn kept stop old new live.whole alone live.readable;
+        sizes = subst (λ (pages : Option PageMap). IfSome pages (λ pages. HasSizes pages kept.size kept.page_size)) (sym (newest_torn_told kept stop old new alone)) live.sizes;
+        hold = All-weaker (PinHolds old kept) (PinHolds new (stopped kept kept.pair stop)) (λ pin holds. pin_holds_torn kept stop old new alone pin holds) pins live.hold;
+        counted = live.counted;
+        opening = live.opening;
+        opened = subst (λ (p : PairView). IsOpenedAt live.opening (stopped kept p stop) new) has.switches.becomes
+            (opened_torn kept readers none live.whole allowed live.opening pair salt2 stop old new has live.opened);
+      })
