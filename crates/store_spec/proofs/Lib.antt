@@ -8,3 +8,4 @@ pub mod SwitchIndex
 pub mod SwitchMaps
 pub mod SwitchPins
 pub mod SwitchLive
+pub mod SwitchRuns
