@@ -9,3 +9,4 @@ pub mod SwitchMaps
 pub mod SwitchPins
 pub mod SwitchLive
 pub mod SwitchRuns
+pub mod SwitchLaws
