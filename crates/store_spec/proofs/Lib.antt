@@ -1,6 +1,7 @@
 pub mod EngineLaws
 pub mod Counting
 pub mod Runs
+pub mod Named
 pub mod Switching
 pub mod Switched
 pub mod SwitchOpened

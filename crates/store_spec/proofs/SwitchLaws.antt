@@ -18,11 +18,11 @@ use Rattle.store_spec.specs.Store.{StoreData, KeptStop, current_read, newest_tol
 use Rattle.store_spec.specs.Pins.{PinHolds}
 use Rattle.store_spec.specs.Steps.{HasCleared, HasSwitched, gone_over, stopped}
 use Rattle.store_spec.specs.Standing.{IsOpenedAt, IsLiveStore, StandsFrom}
+use Rattle.store_spec.proofs.Named.{AreNamed}
 use Rattle.store_spec.proofs.Switching.{allowed, moments, moments_so}
 use Rattle.store_spec.proofs.Switched.{FrontAlone, BothTold, switch_keeps}
 use Rattle.store_spec.proofs.SwitchIndex.{other_is_3, logs_to_write}
 use Rattle.store_spec.proofs.SwitchLive.{live_over, live_torn}
-use Rattle.store_spec.proofs.SwitchMaps.{AreNamed}
 use Rattle.store_spec.proofs.SwitchOpened.{IsReady, files_ready, opened_over, opened_torn}
 use Rattle.store_spec.proofs.SwitchPins.{of_front, newest_over_told, newest_torn_told, pin_over_told, pin_torn_told}
 use Rattle.store_spec.proofs.SwitchRuns.{runs_over, runs_torn}

@@ -31,10 +31,11 @@ use Rattle.store_spec.specs.Pins.{PinHolds, IsFront, IsOlderFront, mark_at}
 use Rattle.store_spec.specs.Steps.{HasCleared, HasSwitched, gone_over, stopped}
 use Rattle.store_spec.specs.Standing.{IsWholeStore, IsCountedLog, IsReadable, IsOpenedAt, IsLiveStore, StandsFrom}
 use Rattle.store_spec.proofs.Runs.{counted_of}
+use Rattle.store_spec.proofs.Named.{AreNamed}
 use Rattle.store_spec.proofs.Switching.{IsAllowed}
 use Rattle.store_spec.proofs.Switched.{FrontAlone, BothTold, switch_keeps, newest_alone, newest_over, other_of_other, new_log_is, old_log_is, new_header_is, new_none, back_log_is}
 use Rattle.store_spec.proofs.SwitchIndex.{index_over, since_over}
-use Rattle.store_spec.proofs.SwitchMaps.{AreNamed, front_below, over_alone, below_alone}
+use Rattle.store_spec.proofs.SwitchMaps.{front_below, over_alone, below_alone}
 use Rattle.store_spec.proofs.SwitchOpened.{IsReady, files_ready, opened_over, opened_torn}
 use Rattle.store_spec.proofs.SwitchPins.{newest_over_told, newest_torn_told, newer_front, same_mark, pin_holds_over, pin_holds_torn}
 

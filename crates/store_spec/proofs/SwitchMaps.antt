@@ -25,34 +25,11 @@ use Rattle.log_pair.specs.Pair.{PairView, other_number, switched_pair}
 use Rattle.store_spec.specs.Store.{StoreData, current_read, other_read, newest_in, map_over, map_below, two_logs, since_of, other_since_of}
 use Rattle.store_spec.specs.Pins.{IsFront, mark_at}
 use Rattle.store_spec.specs.Standing.{IsWholeStore}
+use Rattle.store_spec.proofs.Named.{AreNamed, named_after}
 use Rattle.store_spec.proofs.Switching.{IsAllowed}
 use Rattle.store_spec.proofs.Switched.{FrontAlone, current_alone, other_alone, new_none, old_all}
 use Rattle.store_spec.proofs.SwitchIndex.{other_is_3}
 use Rattle.store_spec.proofs.SwitchOpened.{IsReady}
-
--- Each frame of page 1 names the page size.
-abbrev pub AreNamed : ℕ → List Frame → Type 0
-AreNamed size frames = All (λ frame. page_number frame ≡ 1 → page_size_in (fields_of (page_of frame)) ≡ size) frames
-
--- so a page 1 after such frames names it, where they hold it or what lies below names it
-named_after : (size : ℕ) (frames : List Frame) (below : List ℕ) → AreNamed size frames → Contains (page_numbers frames) 1 ⊎ (page_size_in (fields_of below) ≡ size)
-    → page_size_in (fields_of (page_after_frames frames 1 below)) ≡ size
-named_after size [] below named (inl there) = absurd (let low = there.1 in omega arith)
-named_after size [] below named (inr is) = is
-named_after size (frame ∷ rest) below named has =
-    by (page_number frame == 1) refl has
-    (λ under. named_after size rest under (All-tail (λ frame. page_number frame ≡ 1 → page_size_in (fields_of (page_of frame)) ≡ size) frame rest named))
-  where
-    by : (same : Bool) → (page_number frame == 1) ≡ same → Contains (page_numbers (frame ∷ rest)) 1 ⊎ (page_size_in (fields_of below) ≡ size)
-        → ((under : List ℕ) → Contains (page_numbers rest) 1 ⊎ (page_size_in (fields_of under) ≡ size) → page_size_in (fields_of (page_after_frames rest 1 under)) ≡ size)
-        → page_size_in (fields_of (page_after_frames rest 1 (if same then page_of frame else below))) ≡ size
-    by true same has others =
-        others (page_of frame) (inr (All-head (λ frame. page_number frame ≡ 1 → page_size_in (fields_of (page_of frame)) ≡ size) frame rest named (eqb-true (page_number frame) 1 same)))
-    by false same (inr is) others = others below (inr is)
-    by false same (inl there) others = elim (contains_cases (page_number frame) 1 (page_numbers rest) there) [
-      | inl is ↦ absurd (let yes = (Decides-eqb (page_number frame) 1).1 is in cc)
-      | inr later ↦ others below (inl later)
-    ]
 
 -- the frames of the first commits are the first frames
 front_frames : (count : ℕ) (commits : List Commit) → take (length (frames_of (take count commits))) (frames_of commits) ≡ frames_of (take count commits)

@@ -23,10 +23,11 @@ use Rattle.store_spec.specs.Steps.{HasCleared, gone_over, stopped}
 use Rattle.store_spec.specs.Standing.{IsWholeStore}
 use Rattle.store_spec.proofs.Counting.{has_reader, holders_are}
 use Rattle.store_spec.proofs.Runs.{of_current, of_other}
+use Rattle.store_spec.proofs.Named.{AreNamed}
 use Rattle.store_spec.proofs.Switching.{IsAllowed}
 use Rattle.store_spec.proofs.Switched.{FrontAlone, BothTold, newest_alone, newest_over, new_header_is, other_of_other}
 use Rattle.store_spec.proofs.SwitchIndex.{since_over, other_since_over}
-use Rattle.store_spec.proofs.SwitchMaps.{AreNamed, front_some, front_below, over_alone, below_alone}
+use Rattle.store_spec.proofs.SwitchMaps.{front_some, front_below, over_alone, below_alone}
 use Rattle.store_spec.proofs.SwitchOpened.{IsReady}
 
 -- the readers of all of the other log below a front of the current one

@@ -21,10 +21,11 @@ use Rattle.store_spec.specs.Store.{StoreData, KeptStop, current_read, other_read
 use Rattle.store_spec.specs.Pins.{IsFront, IsOlderFront, mark_at}
 use Rattle.store_spec.specs.Steps.{HasCleared, HasSwitched, gone_over, stopped}
 use Rattle.store_spec.specs.Standing.{IsWholeStore, IsLiveStore, StandsFrom}
+use Rattle.store_spec.proofs.Named.{AreNamed}
 use Rattle.store_spec.proofs.Switching.{IsAllowed}
 use Rattle.store_spec.proofs.Switched.{FrontAlone, BothTold, switch_keeps, newest_alone, newest_over, new_none}
 use Rattle.store_spec.proofs.SwitchIndex.{since_over}
-use Rattle.store_spec.proofs.SwitchMaps.{AreNamed, front_below, over_alone, below_alone}
+use Rattle.store_spec.proofs.SwitchMaps.{front_below, over_alone, below_alone}
 use Rattle.store_spec.proofs.SwitchOpened.{IsReady, files_ready}
 use Rattle.store_spec.proofs.SwitchPins.{newer_front, same_mark}
 
