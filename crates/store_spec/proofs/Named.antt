@@ -1,5 +1,5 @@
 -- The frames of page 1 in a log, and the page size that they name.
-use Rattle.std.proofs.Common.{◌≡◌, ◌∙◌, ℕ, zero, suc, ◌<◌, ◌≤◌, ◌==◌, Bool, true, false, if◌then◌else◌, List, [], ◌∷◌, ◌++◌, length, map, refl, sym, ap, subst, inl, inr, arith, Contains, All}
+use Rattle.std.proofs.Common.{◌≡◌, ◌∙◌, ℕ, ◌==◌, Bool, true, false, if◌then◌else◌, List, [], ◌∷◌, ◌++◌, map, refl, sym, ap, inl, inr, arith, Contains, All}
 use Rattle.std.specs.Prelude.{◌⊎◌}
 use Rattle.std.proofs.lemmas.Bool.{eqb-true, ne_eqb}
 use Rattle.std.proofs.lemmas.Bool.Decides.{Decides-eqb}
@@ -11,9 +11,12 @@ use Rattle.engine_spec.specs.declared.commits.PageImage.{PageImage}
 use Rattle.engine_spec.proofs.Conflicts.{contains_cases, contains_more}
 use Rattle.log_commit.specs.Commit.{AreFramesOf, page_under}
 
--- Each frame of page 1 names the page size.
+-- A frame, where it is of page 1, names this page size; and so does each of some frames.
+abbrev pub NamesSize : ℕ → Frame → Type 0
+NamesSize size frame = page_number frame ≡ 1 → page_size_in (fields_of (page_of frame)) ≡ size
+
 abbrev pub AreNamed : ℕ → List Frame → Type 0
-AreNamed size frames = All (λ frame. page_number frame ≡ 1 → page_size_in (fields_of (page_of frame)) ≡ size) frames
+AreNamed size frames = All (NamesSize size) frames
 
 -- so a page 1 after such frames names it, where they hold it or what lies below names it
 pub named_after : (size : ℕ) (frames : List Frame) (below : List ℕ) → AreNamed size frames → Contains (page_numbers frames) 1 ⊎ (page_size_in (fields_of below) ≡ size)
@@ -22,13 +25,13 @@ named_after size [] below named (inl there) = absurd (let low = there.1 in omega
 named_after size [] below named (inr is) = is
 named_after size (frame ∷ rest) below named has =
     by (page_number frame == 1) refl has
-    (λ under. named_after size rest under (All-tail (λ frame. page_number frame ≡ 1 → page_size_in (fields_of (page_of frame)) ≡ size) frame rest named))
+    (λ under. named_after size rest under (All-tail (NamesSize size) frame rest named))
   where
     by : (same : Bool) → (page_number frame == 1) ≡ same → Contains (page_numbers (frame ∷ rest)) 1 ⊎ (page_size_in (fields_of below) ≡ size)
         → ((under : List ℕ) → Contains (page_numbers rest) 1 ⊎ (page_size_in (fields_of under) ≡ size) → page_size_in (fields_of (page_after_frames rest 1 under)) ≡ size)
         → page_size_in (fields_of (page_after_frames rest 1 (if same then page_of frame else below))) ≡ size
     by true same has others =
-        others (page_of frame) (inr (All-head (λ frame. page_number frame ≡ 1 → page_size_in (fields_of (page_of frame)) ≡ size) frame rest named (eqb-true (page_number frame) 1 same)))
+        others (page_of frame) (inr (All-head (NamesSize size) frame rest named (eqb-true (page_number frame) 1 same)))
     by false same (inr is) others = others below (inr is)
     by false same (inl there) others = elim (contains_cases (page_number frame) 1 (page_numbers rest) there) [
       | inl is ↦ absurd (let yes = (Decides-eqb (page_number frame) 1).1 is in cc)
@@ -37,10 +40,10 @@ named_after size (frame ∷ rest) below named has =
 
 -- no frames, and more frames
 pub named_none : (size : ℕ) → AreNamed size []
-named_none size = All-nil (λ frame. page_number frame ≡ 1 → page_size_in (fields_of (page_of frame)) ≡ size)
+named_none size = All-nil (NamesSize size)
 
 pub named_more : (size : ℕ) (frames more : List Frame) → AreNamed size frames → AreNamed size more → AreNamed size (frames ++ more)
-named_more size frames more = All-append (λ frame. page_number frame ≡ 1 → page_size_in (fields_of (page_of frame)) ≡ size) frames more
+named_more size frames more = All-append (NamesSize size) frames more
 
 -- frames of other pages than page 1
 named_others : (size : ℕ) (images : List PageImage) (frames : List Frame) → AreFramesOf images frames → (Contains (map (λ image. image.page) images) 1 → ⊥) → AreNamed size frames
@@ -48,7 +51,7 @@ named_others size [] [] are none = named_none size
 named_others size [] (frame ∷ frames) are none = absurd are
 named_others size (image ∷ images) [] are none = absurd are
 named_others size (image ∷ images) (frame ∷ frames) (same, bytes, are) none =
-    All-cons (λ frame. page_number frame ≡ 1 → page_size_in (fields_of (page_of frame)) ≡ size) frame frames
+    All-cons (NamesSize size) frame frames
     (λ is. absurd (none (0, omega arith, sym same ∙ is)))
     (named_others size images frames are (λ there. none (contains_more image.page 1 (map (λ image. image.page) images) there)))
 
@@ -64,7 +67,7 @@ pub named_commit : (size : ℕ) (first : PageImage) (images : List PageImage) (m
     → (Contains (map (λ image. image.page) images) 1 → ⊥) → ((below : List ℕ) → page_size_in (fields_of (page_under (first ∷ images) 1 below)) ≡ size) → AreNamed size more
 named_commit size first images [] are one none named = absurd are
 named_commit size first images (frame ∷ frames) (same, bytes, are) one none named =
-    All-cons (λ frame. page_number frame ≡ 1 → page_size_in (fields_of (page_of frame)) ≡ size) frame frames
+    All-cons (NamesSize size) frame frames
     (λ is.
     ap (λ (bytes : List ℕ). page_size_in (fields_of bytes))
     (bytes ∙ sym (under_others images first.bytes none)

@@ -1,5 +1,5 @@
 -- The index and the logs of a store that has gone over to its other log.
-use Rattle.std.proofs.Common.{◌≡◌, ◌∙◌, ℕ, ◌+◌, ◌%◌, ◌-◌, ◌<◌, ◌≤◌, ◌==◌, Bool, true, false, if◌then◌else◌, List, [], ◌∷◌, length, take, drop, refl, sym, ap, subst, inl, inr, arith, Contains, All, None}
+use Rattle.std.proofs.Common.{◌≡◌, ◌∙◌, ℕ, ◌+◌, ◌%◌, ◌-◌, Bool, true, false, if◌then◌else◌, List, [], length, take, drop, refl, sym, ap, subst, inl, inr, arith, Contains}
 use Rattle.std.specs.Prelude.{◌⊎◌, ◌↔◌}
 use Rattle.std.proofs.lemmas.Bool.{cases_lt}
 use Rattle.std.proofs.lemmas.List.{take_all, drop_all}
@@ -8,10 +8,10 @@ use Rattle.log_spec.specs.Checksum.{Sum}
 use Rattle.log_spec.specs.LogHeader.{LogFields}
 use Rattle.engine_spec.specs.declared.commits.Commit.{Commit}
 use Rattle.engine_spec.specs.declared.pins.Readers.{Readers}
-use Rattle.engine_spec.specs.TwoLogs.{TwoLogs, frames_of, may_switch, switched, to_write}
+use Rattle.engine_spec.specs.TwoLogs.{TwoLogs, may_switch, switched, to_write}
 use Rattle.wal_index.specs.Index.{Indexed, IndexedLog, log_in}
 use Rattle.wal_rules.specs.Indexing.{HoldsCommits, IsIndexOf}
-use Rattle.log_pair.specs.Pair.{PairView, LogView, log_of, other_number, current_header, switched_pair}
+use Rattle.log_pair.specs.Pair.{PairView, other_number, current_header, switched_pair}
 use Rattle.log_pair.specs.Switch.{next_header}
 use Rattle.store_spec.specs.Store.{StoreData, two_logs, since_of, other_since_of}
 use Rattle.store_spec.specs.Steps.{IsSameLog, HasCleared, gone_over}
@@ -26,10 +26,13 @@ other_is_3 log (inr is) = rw is refl
 
 odd_next : (generation log : ℕ) → (log ≡ 1) ⊎ (log ≡ 2) → (generation % 2 ≡ 1 ↔ log ≡ 1) → ((generation + 1) % 2 ≡ 1 ↔ 3 - log ≡ 1)
 odd_next generation log (inl is) odd = let one = odd.1 is in (λ even. absurd (omega arith), λ two. absurd (omega arith))
-odd_next generation log (inr is) odd = (λ even. omega arith, λ one. elim (cases_lt (generation % 2) 1) [
-  | inl none ↦ omega arith
-  | inr some ↦ absurd (let first = odd.0 (omega arith) in omega arith)
-])
+odd_next generation log (inr is) odd = (
+  λ even. omega arith,
+  λ one. elim (cases_lt (generation % 2) 1) [
+    | inl none ↦ omega arith
+    | inr some ↦ absurd (let first = odd.0 (omega arith) in omega arith)
+  ],
+)
 
 -- an index of the same
 pub holds_same : (old new : IndexedLog) (before : ℕ) (commits : List Commit) → IsSameLog old new → HoldsCommits old before commits → HoldsCommits new before commits
@@ -44,9 +47,6 @@ holds_same old new before commits same holds = record {
 module _ (kept : StoreData) (readers : Readers) (whole : IsWholeStore kept) (allowed : IsAllowed kept readers) (salt2 : ℕ) (sum : Sum) (index : Indexed) (cleared : HasCleared kept index) where
   abbrev over : PairView
   over = switched_pair kept.pair (next_header kept.pair salt2 sum)
-
-  abbrev then : StoreData
-  then = gone_over kept over index
 
   -- before the first commit of the new log there are all of them
   pub since_over : since_of (gone_over kept over index) ≡ length kept.history

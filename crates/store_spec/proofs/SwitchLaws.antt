@@ -1,5 +1,5 @@
 -- What an engine needs of a switch, by the switch rule and what the switch was answered.
-use Rattle.std.proofs.Common.{◌≡◌, ◌∙◌, ℕ, ◌+◌, ◌-◌, ◌==◌, Bool, true, false, if◌then◌else◌, List, [], ◌∷◌, ◌++◌, length, refl, sym, ap, subst, Contains, Option, Some, None}
+use Rattle.std.proofs.Common.{◌≡◌, ℕ, Bool, true, false, List, refl, sym, ap, subst, Contains, Option, None}
 use Rattle.std.specs.Prelude.{IfSome}
 use Rattle.std.proofs.lemmas.List.Elements.{All-contains}
 use Rattle.disk_face.specs.Steps.{History, reads}
@@ -12,8 +12,7 @@ use Rattle.engine_spec.specs.Leaves.{RecoversOneOf, if_told, may_recover}
 use Rattle.engine_spec.specs.TwoLogs.{IsStopPlace, may_switch, to_write}
 use Rattle.engine_spec.specs.TwoLogs.IsStopPlace.{AtHeader}
 use Rattle.wal_index.specs.Index.{Indexed}
-use Rattle.log_pair.specs.Pair.{PairView, other_number, switched_pair}
-use Rattle.log_pair.specs.Switch.{next_header}
+use Rattle.log_pair.specs.Pair.{PairView, other_number}
 use Rattle.store_spec.specs.Store.{StoreData, KeptStop, current_read, newest_told, pin_told, store_state, two_logs}
 use Rattle.store_spec.specs.Pins.{PinHolds}
 use Rattle.store_spec.specs.Steps.{HasCleared, HasSwitched, gone_over, stopped}

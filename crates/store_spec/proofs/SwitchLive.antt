@@ -1,43 +1,33 @@
 -- A store that has gone over to its other log, or failed in that, is whole, its pins hold, and it stands for the same runs.
-use Rattle.std.proofs.Common.{◌≡◌, ◌∙◌, ℕ, ◌+◌, ◌*◌, ◌-◌, ◌<◌, ◌≤◌, ◌==◌, ◌^◌, Bool, true, false, if◌then◌else◌, List, [], length, take, drop, refl, sym, ap, subst, inl, inr, arith, Contains, All, Option, Some, None}
-use Rattle.std.specs.Prelude.{◌⊎◌, IfSome, IsTrue}
+use Rattle.std.proofs.Common.{◌≡◌, ◌∙◌, ℕ, ◌+◌, ◌*◌, ◌<◌, ◌≤◌, true, false, List, length, refl, sym, ap, subst, inl, inr, arith, Contains, All, Option, Some, None}
+use Rattle.std.specs.Prelude.{◌⊎◌, IfSome}
 use Rattle.std.proofs.lemmas.Bool.Decides.{nat_tests}
-use Rattle.std.proofs.lemmas.List.{take_all}
 use Rattle.std.proofs.lemmas.List.Elements.{All-nil, All-weaker, All-contains, All-contains_itself}
-use Rattle.disk_face.specs.declared.disk.File.{File}
-use Rattle.disk_face.specs.declared.disk.File.TheVariants.{Main, Log1, Log2}
-use Rattle.disk_face.specs.Files.{Files, content}
+use Rattle.disk_face.specs.Files.{content}
 use Rattle.disk_face.specs.Steps.{History, reads}
 use Rattle.disk_face.specs.Told.{IsInside}
-use Rattle.page_spec.specs.Header.{is_page_size}
 use Rattle.page_spec.specs.PageMap.{PageMap}
 use Rattle.log_spec.specs.Checksum.{Sum}
-use Rattle.log_spec.specs.LogHeader.{LogFields, is_generation, last_generation, header_size}
-use Rattle.log_spec.specs.Accept.{Frame}
+use Rattle.log_spec.specs.LogHeader.{LogFields, is_generation, last_generation}
 use Rattle.log_spec.specs.Frames.{frame_place}
-use Rattle.crash_spec.specs.Opening.{Opening}
-use Rattle.crash_spec.specs.Recovered.{overlaid}
-use Rattle.engine_spec.specs.declared.commits.Commit.{Commit}
 use Rattle.engine_spec.specs.declared.pins.Pin.{Pin}
 use Rattle.engine_spec.specs.declared.pins.Readers.{Readers}
 use Rattle.engine_spec.specs.Good.{HasSizes}
-use Rattle.engine_spec.specs.History.{statements_of}
 use Rattle.wal_frames.specs.Found.{log_file}
-use Rattle.wal_index.specs.Index.{Indexed, log_in}
+use Rattle.wal_index.specs.Index.{Indexed}
 use Rattle.log_pair.specs.Pair.{PairView, LogView, IsPair, IsLegalLog, log_of, other_number, current_file, current_header, switched_pair}
 use Rattle.log_pair.specs.Switch.{next_header, other_file}
-use Rattle.store_spec.specs.Store.{StoreData, KeptStop, current_read, other_read, newest_in, map_over, map_below, newest_told, two_logs, since_of, other_since_of}
-use Rattle.store_spec.specs.Pins.{PinHolds, IsFront, IsOlderFront, mark_at}
+use Rattle.store_spec.specs.Store.{StoreData, KeptStop, current_read}
+use Rattle.store_spec.specs.Pins.{PinHolds}
 use Rattle.store_spec.specs.Steps.{HasCleared, HasSwitched, gone_over, stopped}
-use Rattle.store_spec.specs.Standing.{IsWholeStore, IsCountedLog, IsReadable, IsOpenedAt, IsLiveStore, StandsFrom}
+use Rattle.store_spec.specs.Standing.{IsWholeStore, IsCountedLog, IsReadable, IsOpenedAt, IsLiveStore}
 use Rattle.store_spec.proofs.Runs.{counted_of}
 use Rattle.store_spec.proofs.Named.{AreNamed}
 use Rattle.store_spec.proofs.Switching.{IsAllowed}
-use Rattle.store_spec.proofs.Switched.{FrontAlone, BothTold, switch_keeps, newest_alone, newest_over, other_of_other, new_log_is, old_log_is, new_header_is, new_none, back_log_is}
-use Rattle.store_spec.proofs.SwitchIndex.{index_over, since_over}
-use Rattle.store_spec.proofs.SwitchMaps.{front_below, over_alone, below_alone}
-use Rattle.store_spec.proofs.SwitchOpened.{IsReady, files_ready, opened_over, opened_torn}
-use Rattle.store_spec.proofs.SwitchPins.{newest_over_told, newest_torn_told, newer_front, same_mark, pin_holds_over, pin_holds_torn}
+use Rattle.store_spec.proofs.Switched.{FrontAlone, BothTold, switch_keeps, new_log_is, old_log_is, new_header_is, back_log_is}
+use Rattle.store_spec.proofs.SwitchIndex.{index_over}
+use Rattle.store_spec.proofs.SwitchOpened.{files_ready, opened_over, opened_torn}
+use Rattle.store_spec.proofs.SwitchPins.{newest_over_told, newest_torn_told, pin_holds_over, pin_holds_torn}
 
 -- what holds of the current log and of the other one holds of log 1, and of log 2
 one_of_both : (P : ℕ → Type 0) (log : ℕ) → (log ≡ 1) ⊎ (log ≡ 2) → P log → P (other_number log) → P 1 × P 2
@@ -167,12 +157,12 @@ readable_over kept header index (Some told) (Some later) whole alone readable =
     let far = reach_of kept (Some told) kept.pair.current whole.pair.which readable in
     let near = reach_of kept (Some told) (other_number kept.pair.current) (other_which kept.pair.current whole.pair.which) readable in
     let both = one_of_both
-        (λ (log : ℕ). frame_place (log_of (switched_pair kept.pair header) log).header (log_of (switched_pair kept.pair header) log).frames + 0 ≤ length (content (reads later) (log_file log)))
-        kept.pair.current whole.pair.which
-        (subst (λ (view : LogView). frame_place view.header view.frames + 0 ≤ length (content (reads later) (current_file kept.pair))) (sym (old_log_is kept.pair header))
-        (subst (λ (bytes : List ℕ). frame_place (current_header kept.pair) (log_of kept.pair kept.pair.current).frames + 0 ≤ length bytes) (sym alone.current) far))
-        (subst (λ (view : LogView). frame_place view.header view.frames + 0 ≤ length (content (reads later) (other_file kept.pair))) (sym (new_log_is kept.pair header))
-        (let long = alone.no_shorter in omega arith)) in
+    (λ (log : ℕ). frame_place (log_of (switched_pair kept.pair header) log).header (log_of (switched_pair kept.pair header) log).frames + 0 ≤ length (content (reads later) (log_file log)))
+    kept.pair.current whole.pair.which
+    (subst (λ (view : LogView). frame_place view.header view.frames + 0 ≤ length (content (reads later) (current_file kept.pair))) (sym (old_log_is kept.pair header))
+    (subst (λ (bytes : List ℕ). frame_place (current_header kept.pair) (log_of kept.pair kept.pair.current).frames + 0 ≤ length bytes) (sym alone.current) far))
+    (subst (λ (view : LogView). frame_place view.header view.frames + 0 ≤ length (content (reads later) (other_file kept.pair))) (sym (new_log_is kept.pair header))
+    (let long = alone.no_shorter in omega arith)) in
     record {
       log1 = both.0;
       log2 = both.1;
@@ -188,10 +178,10 @@ readable_torn kept stop (Some told) (Some later) whole alone readable =
     let far = reach_of kept (Some told) kept.pair.current whole.pair.which readable in
     let near = reach_of kept (Some told) (other_number kept.pair.current) (other_which kept.pair.current whole.pair.which) readable in
     let both = one_of_both
-        (λ (log : ℕ). frame_place (log_of kept.pair log).header (log_of kept.pair log).frames + 0 ≤ length (content (reads later) (log_file log)))
-        kept.pair.current whole.pair.which
-        (subst (λ (bytes : List ℕ). frame_place (current_header kept.pair) (log_of kept.pair kept.pair.current).frames + 0 ≤ length bytes) (sym alone.current) far)
-        (let long = alone.no_shorter in omega arith) in
+    (λ (log : ℕ). frame_place (log_of kept.pair log).header (log_of kept.pair log).frames + 0 ≤ length (content (reads later) (log_file log)))
+    kept.pair.current whole.pair.which
+    (subst (λ (bytes : List ℕ). frame_place (current_header kept.pair) (log_of kept.pair kept.pair.current).frames + 0 ≤ length bytes) (sym alone.current) far)
+    (let long = alone.no_shorter in omega arith) in
     record {
       log1 = both.0;
       log2 = both.1;

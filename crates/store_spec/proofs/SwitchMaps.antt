@@ -1,33 +1,28 @@
 -- The maps on the current log, before and after it becomes the other one.
-use Rattle.std.proofs.Common.{◌≡◌, ◌∙◌, ℕ, zero, suc, ◌+◌, ◌-◌, ◌<◌, ◌≤◌, ◌==◌, Bool, true, false, if◌then◌else◌, List, [], ◌∷◌, ◌++◌, length, take, drop, refl, sym, ap, subst, inl, inr, arith, Contains, All, Option, Some, None}
-use Rattle.std.specs.Prelude.{◌⊎◌, IfSome}
+use Rattle.std.proofs.Common.{◌≡◌, ◌∙◌, ℕ, ◌+◌, ◌-◌, ◌<◌, ◌≤◌, List, [], ◌∷◌, length, take, drop, refl, sym, ap, subst, inl, inr, arith, Contains, All}
+use Rattle.std.specs.Prelude.{◌⊎◌}
 use Rattle.std.specs.List.{take-map}
 use Rattle.std.proofs.Math.Seq.{take-append_seam}
-use Rattle.std.proofs.lemmas.Bool.{eqb-true, cases_lt}
-use Rattle.std.proofs.lemmas.Bool.Decides.{Decides-eqb}
+use Rattle.std.proofs.lemmas.Bool.{cases_lt}
 use Rattle.std.proofs.lemmas.Grind.{flat_map-append}
-use Rattle.std.proofs.lemmas.List.{drop_all, drop-take, take_all, take-append-drop, length-take, length-drop}
-use Rattle.std.proofs.lemmas.List.Elements.{All-head, All-tail, All-take, Contains-append_left}
+use Rattle.std.proofs.lemmas.List.{drop_all, drop-take, take-append-drop, length-take, length-drop}
+use Rattle.std.proofs.lemmas.List.Elements.{All-head, All-take, Contains-append_left}
 use Rattle.disk_face.specs.Files.{Files}
-use Rattle.page_spec.specs.Header.{fields_of, page_size_in}
-use Rattle.page_spec.specs.PageMap.{PageMap}
-use Rattle.log_spec.specs.Accept.{Frame, page_number, page_numbers, page_of}
+use Rattle.log_spec.specs.Accept.{Frame, page_number, page_numbers}
 use Rattle.log_spec.specs.LogHeader.{LogFields}
 use Rattle.crash_spec.specs.Recovered.{page_after_frames, overlaid}
-use Rattle.crash_spec.specs.Store.{IsCopied, named_size}
 use Rattle.crash_spec.proofs.Switching.{copied_away}
 use Rattle.engine_spec.specs.declared.commits.Commit.{Commit}
 use Rattle.engine_spec.specs.declared.pins.Readers.{Readers}
 use Rattle.engine_spec.specs.TwoLogs.{frames_of}
-use Rattle.engine_spec.proofs.Conflicts.{contains_cases}
 use Rattle.wal_index.specs.Index.{log_in}
-use Rattle.log_pair.specs.Pair.{PairView, other_number, switched_pair}
-use Rattle.store_spec.specs.Store.{StoreData, current_read, other_read, newest_in, map_over, map_below, two_logs, since_of, other_since_of}
+use Rattle.log_pair.specs.Pair.{PairView, switched_pair}
+use Rattle.store_spec.specs.Store.{StoreData, current_read, other_read, map_over, map_below, since_of, other_since_of}
 use Rattle.store_spec.specs.Pins.{IsFront, mark_at}
 use Rattle.store_spec.specs.Standing.{IsWholeStore}
-use Rattle.store_spec.proofs.Named.{AreNamed, named_after}
+use Rattle.store_spec.proofs.Named.{NamesSize, AreNamed, named_after}
 use Rattle.store_spec.proofs.Switching.{IsAllowed}
-use Rattle.store_spec.proofs.Switched.{FrontAlone, current_alone, other_alone, new_none, old_all}
+use Rattle.store_spec.proofs.Switched.{FrontAlone, current_alone, other_alone, old_all}
 use Rattle.store_spec.proofs.SwitchIndex.{other_is_3}
 use Rattle.store_spec.proofs.SwitchOpened.{IsReady}
 
@@ -105,7 +100,7 @@ module _ (kept : StoreData) (readers : Readers) (whole : IsWholeStore kept) (all
           (let first = front_first n held front.most in
           sym (copied_away kept.page_size files.main (other_read kept.pair files) (take (mark_at kept.history (since_of kept) n) (current_read kept.pair files)) first ready.copied
           (named_after kept.page_size (take (mark_at kept.history (since_of kept) n) (current_read kept.pair files)) (page_after_frames (other_read kept.pair files) 1 (take 100 files.main))
-          (All-take (λ frame. page_number frame ≡ 1 → page_size_in (fields_of (page_of frame)) ≡ kept.page_size) (mark_at kept.history (since_of kept) n) (current_read kept.pair files) named) (inl first))))
+          (All-take (NamesSize kept.page_size) (mark_at kept.history (since_of kept) n) (current_read kept.pair files) named) (inl first))))
       | inr none ↦ ap (λ (frames : List Frame). overlaid files.main frames (take (mark_at kept.history (since_of kept) n) (current_read kept.pair files))) (other_none none)
     ]
 

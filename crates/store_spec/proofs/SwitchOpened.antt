@@ -1,20 +1,20 @@
 -- Since an opening the files hold the store that has gone over to its other log, or the one that failed in that.
-use Rattle.std.proofs.Common.{◌≡◌, ◌∙◌, ℕ, ◌+◌, ◌%◌, ◌^◌, ◌-◌, ◌<◌, ◌≤◌, ◌==◌, Bool, true, false, if◌then◌else◌, List, [], ◌∷◌, length, take, drop, refl, sym, ap, subst, inl, inr, arith, Contains, Option, Some, None, IsSome}
+use Rattle.std.proofs.Common.{◌≡◌, ◌∙◌, ℕ, ◌+◌, ◌%◌, ◌^◌, ◌≤◌, ◌==◌, Bool, true, false, if◌then◌else◌, List, [], length, take, refl, sym, ap, subst, inl, inr, arith, Contains, Option, Some, None}
 use Rattle.std.specs.Prelude.{IfSome, MatchOption, ◌⊎◌}
 use Rattle.std.specs.List.{concat}
 use Rattle.disk_face.specs.declared.disk.File.{File}
-use Rattle.disk_face.specs.declared.disk.File.TheVariants.{Main, Log1, Log2}
+use Rattle.disk_face.specs.declared.disk.File.TheVariants.{Log1, Log2}
 use Rattle.disk_face.specs.declared.step.Step.TheVariants.{Wrote, Synced}
-use Rattle.disk_face.specs.Files.{Files, content}
-use Rattle.disk_face.specs.Steps.{History, reads, further, after}
+use Rattle.disk_face.specs.Files.{Files}
+use Rattle.disk_face.specs.Steps.{History, reads, further}
 use Rattle.log_spec.specs.Checksum.{Sum}
-use Rattle.log_spec.specs.LogHeader.{LogFields, IsOurs, header_size}
+use Rattle.log_spec.specs.LogHeader.{LogFields, IsOurs}
 use Rattle.log_spec.specs.Accept.{Frame, AreThere, last_size, page_numbers}
 use Rattle.log_spec.specs.Written.{IsHeaderOf}
 use Rattle.crash_spec.specs.Elsewhere.{IsElsewhere}
-use Rattle.crash_spec.specs.Marks.{number_of, other_of}
+use Rattle.crash_spec.specs.Marks.{number_of}
 use Rattle.crash_spec.specs.Logs.{IsWhole, IsOnDisk}
-use Rattle.crash_spec.specs.Opening.{Opening, Since, grown, rebased}
+use Rattle.crash_spec.specs.Opening.{Opening, Since, rebased}
 use Rattle.crash_spec.specs.Recovered.{main_page, page_after_frames}
 use Rattle.crash_spec.specs.Store.{StoreView, Holds, IsCopied, named_size}
 use Rattle.crash_spec.proofs.Elsewhere.{whole_elsewhere, whole_synced}
@@ -32,9 +32,9 @@ use Rattle.log_commit.proofs.FrontLaws.{begun, front_begun, front_beside_begun, 
 use Rattle.log_commit.proofs.SinceSteps.{since_both}
 use Rattle.store_spec.specs.Store.{StoreData, KeptStop, current_read, other_read, newest_in, view_of}
 use Rattle.store_spec.specs.Steps.{HasCleared, HasSwitched, gone_over, stopped}
-use Rattle.store_spec.specs.Standing.{IsWholeStore, IsReadable, AreCopied, AreThereBoth, AreFronts, IsRunning, IsStoreOn, IsTornOn, StandsOn, IsOpenedAt}
+use Rattle.store_spec.specs.Standing.{IsWholeStore, AreThereBoth, AreFronts, IsRunning, IsStoreOn, IsTornOn, StandsOn, IsOpenedAt}
 use Rattle.store_spec.proofs.Switching.{IsAllowed, other_file_is, other_number_is, on_of, running_of, has_first, goes_over}
-use Rattle.store_spec.proofs.Switched.{FrontAlone, BothTold, other_apart, put_front, switch_keeps, current_alone, other_alone, newest_alone, other_of_other, new_log_is, new_header_is, new_none, back_log_is, back_file_is, old_all, newest_over}
+use Rattle.store_spec.proofs.Switched.{FrontAlone, BothTold, other_apart, put_front, switch_keeps, current_alone, other_alone, newest_alone, other_of_other, new_header_is, new_none, back_log_is, back_file_is, old_all, newest_over}
 
 -- what a switch needs of the files for the newest map to stay
 pub record IsReady (kept : StoreData) (files : Files) : Type 0 where

@@ -1,5 +1,5 @@
 -- The newest map and the pins of a store that has gone over to its other log, or failed in that.
-use Rattle.std.proofs.Common.{◌≡◌, ◌∙◌, ℕ, ◌+◌, ◌-◌, ◌<◌, ◌≤◌, ◌==◌, Bool, true, false, if◌then◌else◌, List, [], length, take, drop, refl, sym, ap, subst, inl, inr, arith, Contains, All, Option, Some, None}
+use Rattle.std.proofs.Common.{◌≡◌, ◌∙◌, ℕ, ◌+◌, ◌<◌, ◌≤◌, ◌==◌, Bool, true, false, if◌then◌else◌, List, refl, sym, ap, subst, inl, inr, arith, Contains, Option, Some, None}
 use Rattle.std.specs.Prelude.{◌⊎◌, IfSome}
 use Rattle.disk_face.specs.Files.{Files}
 use Rattle.disk_face.specs.Steps.{History, reads}
@@ -169,9 +169,6 @@ module _ (kept : StoreData) (readers : Readers) (whole : IsWholeStore kept) (all
 
 -- And where the switch failed all is the same.
 module _ (kept : StoreData) (stop : KeptStop) where
-  abbrev torn : StoreData
-  torn = stopped kept kept.pair stop
-
   pub newest_torn_told : (old new : Option History) → BothTold (FrontAlone kept.pair) old new → newest_told (stopped kept kept.pair stop) new ≡ newest_told kept old
   newest_torn_told None None alone = refl
   newest_torn_told None (Some later) alone = absurd alone

@@ -1,5 +1,5 @@
 -- A store that has gone over to its other log, or failed in that, stands for the runs for which it stood.
-use Rattle.std.proofs.Common.{◌≡◌, ◌∙◌, ℕ, ◌+◌, ◌<◌, ◌≤◌, true, false, List, [], length, take, refl, sym, ap, subst, arith, Contains, Option, Some, None}
+use Rattle.std.proofs.Common.{◌≡◌, ◌∙◌, ℕ, true, false, List, [], take, sym, ap, subst, arith, Option, Some, None}
 use Rattle.std.specs.Prelude.{IfSome}
 use Rattle.std.proofs.lemmas.List.{take_all}
 use Rattle.disk_face.specs.Files.{Files}
@@ -13,11 +13,10 @@ use Rattle.engine_spec.specs.declared.commits.Commit.{Commit}
 use Rattle.engine_spec.specs.declared.pins.Pin.{Pin}
 use Rattle.engine_spec.specs.declared.pins.Readers.{Readers}
 use Rattle.engine_spec.specs.History.{statements_of}
-use Rattle.engine_spec.specs.TwoLogs.{holders}
 use Rattle.wal_index.specs.Index.{Indexed}
 use Rattle.log_pair.specs.Pair.{PairView, switched_pair}
 use Rattle.log_pair.specs.Switch.{next_header}
-use Rattle.store_spec.specs.Store.{StoreData, KeptStop, current_read, other_read, newest_in, map_over, map_below, two_logs, since_of, other_since_of}
+use Rattle.store_spec.specs.Store.{StoreData, KeptStop, current_read, other_read, newest_in, map_over, map_below, since_of, other_since_of}
 use Rattle.store_spec.specs.Pins.{IsFront, IsOlderFront, mark_at}
 use Rattle.store_spec.specs.Steps.{HasCleared, HasSwitched, gone_over, stopped}
 use Rattle.store_spec.specs.Standing.{IsWholeStore, IsLiveStore, StandsFrom}

@@ -1,27 +1,22 @@
 -- What the files hold after a switch, done or failed, and which map.
-use Rattle.std.proofs.Common.{◌≡◌, ◌∙◌, ℕ, ◌+◌, ◌%◌, ◌^◌, ◌*◌, ◌-◌, ◌<◌, ◌≤◌, ◌==◌, Bool, true, false, if◌then◌else◌, List, [], ◌∷◌, ◌++◌, length, take, drop, refl, sym, ap, subst, inl, inr, arith, Contains, Option, Some, None, IsSome, All}
-use Rattle.std.specs.Prelude.{IfSome, ◌⊎◌}
+use Rattle.std.proofs.Common.{◌≡◌, ◌∙◌, ℕ, ◌+◌, ◌≤◌, ◌==◌, Bool, true, false, if◌then◌else◌, List, [], ◌++◌, length, drop, refl, sym, ap, subst, inl, inr, arith, Contains, Option, Some, None}
+use Rattle.std.specs.Prelude.{◌⊎◌}
 use Rattle.std.proofs.lemmas.Slice.{drop-append-drop}
-use Rattle.disk_face.specs.declared.disk.File.{File}
 use Rattle.disk_face.specs.declared.disk.File.TheVariants.{Main, Log1, Log2}
-use Rattle.disk_face.specs.declared.step.Step.TheVariants.{Wrote, Refused, Synced}
 use Rattle.disk_face.specs.Files.{Files, content, put, overwritten}
 use Rattle.disk_face.specs.Image.{same_file}
-use Rattle.disk_face.specs.Steps.{History, reads, further, after}
-use Rattle.disk_face.specs.Told.{IsInside}
+use Rattle.disk_face.specs.Steps.{History, reads}
 use Rattle.disk_face.proofs.Contents.{content-put, content-put-other, length-overwritten}
-use Rattle.page_spec.specs.PageMap.{PageMap}
 use Rattle.log_spec.specs.LogHeader.{LogFields, header_size}
 use Rattle.log_spec.specs.Accept.{Frame, page_numbers}
-use Rattle.log_spec.specs.Frames.{frame_place, frame_size}
+use Rattle.log_spec.specs.Frames.{frame_size}
 use Rattle.crash_spec.specs.Recovered.{overlaid}
 use Rattle.crash_spec.specs.Store.{IsCopied, named_size}
 use Rattle.crash_spec.proofs.Switching.{copied_away, empty_either}
 use Rattle.wal_frames.specs.Found.{log_file}
 use Rattle.log_pair.specs.Pair.{PairView, LogView, log_of, other_number, current_file, current_header, switched_pair}
 use Rattle.log_pair.specs.Switch.{WritesAndSyncs, front_piece, other_file}
-use Rattle.store_spec.specs.Store.{StoreData, frames_in, frames_read, current_read, other_read, newest_in}
-use Rattle.store_spec.specs.Standing.{IsReadable}
+use Rattle.store_spec.specs.Store.{frames_in, frames_read, current_read, other_read, newest_in}
 
 -- Of the files the front of the other log alone has changed, and that log is no shorter.
 pub record FrontAlone (pair : PairView) (one other : Files) : Type 0 where

@@ -1,23 +1,22 @@
 -- A store may go over to its other log, and what a crash leaves meanwhile.
-use Rattle.std.proofs.Common.{◌≡◌, ◌∙◌, ℕ, ◌+◌, ◌<◌, ◌≤◌, ◌==◌, Bool, true, false, if◌then◌else◌, List, [], ◌∷◌, ◌++◌, length, drop, refl, sym, ap, subst, inl, inr, arith, Contains, Option, Some, None, IsSome, All}
+use Rattle.std.proofs.Common.{◌≡◌, ◌∙◌, ℕ, ◌<◌, ◌≤◌, ◌==◌, Bool, true, false, if◌then◌else◌, List, [], ◌∷◌, ◌++◌, length, drop, refl, sym, ap, subst, inl, inr, arith, Contains, Option, Some, None, IsSome, All}
 use Rattle.std.specs.Prelude.{MatchOption, ◌&&◌, not, nat_lt}
 use Rattle.std.proofs.lemmas.Bool.{eqb-true}
 use Rattle.std.proofs.lemmas.Bool.Decides.{nat_tests}
 use Rattle.std.proofs.lemmas.List.Elements.{All-head, Contains-append_left}
-use Rattle.disk_face.specs.declared.disk.File.{File}
 use Rattle.disk_face.specs.declared.disk.File.TheVariants.{Log1, Log2}
 use Rattle.disk_face.specs.declared.step.Step.{Step}
 use Rattle.disk_face.specs.Files.{Files}
 use Rattle.disk_face.specs.Steps.{History, reads}
 use Rattle.page_spec.specs.PageMap.{PageMap}
 use Rattle.log_spec.specs.Checksum.{Sum}
-use Rattle.log_spec.specs.LogHeader.{LogFields, IsOurs, log_fields, last_generation}
-use Rattle.log_spec.specs.Accept.{Frame, last_size, page_numbers}
+use Rattle.log_spec.specs.LogHeader.{LogFields, IsOurs, last_generation}
+use Rattle.log_spec.specs.Accept.{last_size, page_numbers}
 use Rattle.log_spec.specs.Written.{IsHeaderOf}
 use Rattle.crash_spec.specs.Marks.{number_of, other_of}
 use Rattle.crash_spec.specs.Logs.{IsWhole}
 use Rattle.crash_spec.specs.Moments.{AtEachMoment}
-use Rattle.crash_spec.specs.Opening.{Opening, Since, grown, rebased}
+use Rattle.crash_spec.specs.Opening.{Opening, grown, rebased}
 use Rattle.crash_spec.specs.Passes.{Passes, ByAnswer}
 use Rattle.crash_spec.specs.Recovered.{recovered}
 use Rattle.crash_spec.specs.Store.{StoreView, Holds, Leaves}
