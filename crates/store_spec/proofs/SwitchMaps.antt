@@ -11,6 +11,7 @@ use Rattle.disk_face.specs.Files.{Files}
 use Rattle.log_spec.specs.Accept.{Frame, page_number, page_numbers}
 use Rattle.log_spec.specs.LogHeader.{LogFields}
 use Rattle.crash_spec.specs.Recovered.{page_after_frames, overlaid}
+use Rattle.crash_spec.specs.Store.{named_size}
 use Rattle.crash_spec.proofs.Switching.{copied_away}
 use Rattle.engine_spec.specs.declared.commits.Commit.{Commit}
 use Rattle.engine_spec.specs.declared.pins.Readers.{Readers}
@@ -48,6 +49,30 @@ no_frames : (frames : List Frame) → page_numbers frames ≡ [] → frames ≡ 
 no_frames [] is = refl
 no_frames (frame ∷ rest) is = absurd (let some = ap (λ (pages : List ℕ). length pages) is in omega arith)
 
+-- A front that holds a commit, where the frames read are those of the index.
+module _ (kept : StoreData) (whole : IsWholeStore kept) (files : Files) (there : page_numbers (current_read kept.pair files) ≡ (log_in kept.index kept.pair.current).pages) where
+  -- page 1 is among the frames of such a front
+  pub front_first : (n : ℕ) → since_of kept < n → n ≤ length kept.history
+      → Contains (page_numbers (take (mark_at kept.history (since_of kept) n) (current_read kept.pair files))) 1
+  front_first n held most =
+      let commits : List Commit = drop (since_of kept) kept.history in
+      let between : drop (since_of kept) (take n kept.history) ≡ take (n - since_of kept) commits = commits_between kept.history (since_of kept) n (omega arith) in
+      let all : page_numbers (current_read kept.pair files) ≡ frames_of commits = there ∙ whole.index.current.pages in
+      subst (λ (pages : List ℕ). Contains pages 1)
+      (sym (sym (take-map page_number (mark_at kept.history (since_of kept) n) (current_read kept.pair files))
+      ∙ ap (take (mark_at kept.history (since_of kept) n)) all
+      ∙ ap (λ (cs : List Commit). take (length (frames_of cs)) (frames_of commits)) between
+      ∙ front_frames (n - since_of kept) commits))
+      (some_first (take (n - since_of kept) commits) (All-take (λ commit. Contains commit.wrote 1) (n - since_of kept) commits whole.index.current.first_pages)
+      (omega (arith, length-take (n - since_of kept) commits, length-drop (since_of kept) kept.history)))
+
+  -- and names the page size
+  pub front_named : AreNamed kept.page_size (current_read kept.pair files) → (n : ℕ) → since_of kept < n → n ≤ length kept.history
+      → named_size files.main (other_read kept.pair files) (take (mark_at kept.history (since_of kept) n) (current_read kept.pair files)) ≡ kept.page_size
+  front_named named n held most =
+      named_after kept.page_size (take (mark_at kept.history (since_of kept) n) (current_read kept.pair files)) (page_after_frames (other_read kept.pair files) 1 (take 100 files.main))
+      (All-take (NamesSize kept.page_size) (mark_at kept.history (since_of kept) n) (current_read kept.pair files) named) (inl (front_first n held most))
+
 module _ (kept : StoreData) (readers : Readers) (whole : IsWholeStore kept) (allowed : IsAllowed kept readers) where
   -- the current log holds a commit
   pub some_commits : since_of kept < length kept.history
@@ -70,21 +95,6 @@ module _ (kept : StoreData) (readers : Readers) (whole : IsWholeStore kept) (all
   ]
 
   module _ (files : Files) (ready : IsReady kept files) (named : AreNamed kept.page_size (current_read kept.pair files)) where
-    -- page 1 is among the frames of such a front
-    front_first : (n : ℕ) → since_of kept < n → n ≤ length kept.history
-        → Contains (page_numbers (take (mark_at kept.history (since_of kept) n) (current_read kept.pair files))) 1
-    front_first n held most =
-        let commits : List Commit = drop (since_of kept) kept.history in
-        let between : drop (since_of kept) (take n kept.history) ≡ take (n - since_of kept) commits = commits_between kept.history (since_of kept) n (omega arith) in
-        let all : page_numbers (current_read kept.pair files) ≡ frames_of commits = ready.current_pages ∙ whole.index.current.pages in
-        subst (λ (pages : List ℕ). Contains pages 1)
-        (sym (sym (take-map page_number (mark_at kept.history (since_of kept) n) (current_read kept.pair files))
-        ∙ ap (take (mark_at kept.history (since_of kept) n)) all
-        ∙ ap (λ (cs : List Commit). take (length (frames_of cs)) (frames_of commits)) between
-        ∙ front_frames (n - since_of kept) commits))
-        (some_first (take (n - since_of kept) commits) (All-take (λ commit. Contains commit.wrote 1) (n - since_of kept) commits whole.index.current.first_pages)
-        (omega (arith, length-take (n - since_of kept) commits, length-drop (since_of kept) kept.history)))
-
     -- where no commit stands before the current log, the other one has no frames
     other_none : since_of kept ≡ 0 → other_read kept.pair files ≡ []
     other_none none =
@@ -97,10 +107,8 @@ module _ (kept : StoreData) (readers : Readers) (whole : IsWholeStore kept) (all
         → map_over kept.pair (mark_at kept.history (since_of kept) n) files ≡ overlaid files.main [] (take (mark_at kept.history (since_of kept) n) (current_read kept.pair files))
     front_alone n front = elim (front_some n front) [
       | inl held ↦
-          (let first = front_first n held front.most in
-          sym (copied_away kept.page_size files.main (other_read kept.pair files) (take (mark_at kept.history (since_of kept) n) (current_read kept.pair files)) first ready.copied
-          (named_after kept.page_size (take (mark_at kept.history (since_of kept) n) (current_read kept.pair files)) (page_after_frames (other_read kept.pair files) 1 (take 100 files.main))
-          (All-take (NamesSize kept.page_size) (mark_at kept.history (since_of kept) n) (current_read kept.pair files) named) (inl first))))
+          sym (copied_away kept.page_size files.main (other_read kept.pair files) (take (mark_at kept.history (since_of kept) n) (current_read kept.pair files))
+          (front_first kept whole files ready.current_pages n held front.most) ready.copied (front_named kept whole files ready.current_pages named n held front.most))
       | inr none ↦ ap (λ (frames : List Frame). overlaid files.main frames (take (mark_at kept.history (since_of kept) n) (current_read kept.pair files))) (other_none none)
     ]
 
