@@ -22,9 +22,9 @@ use Rattle.store_spec.specs.Pins.{PinHolds}
 use Rattle.store_spec.specs.Steps.{HasCleared, HasSwitched, gone_over, stopped}
 use Rattle.store_spec.specs.Standing.{IsWholeStore, IsCountedLog, IsReadable, IsOpenedAt, IsLiveStore}
 use Rattle.store_spec.proofs.Runs.{counted_of}
-use Rattle.store_spec.proofs.Named.{AreNamed}
+use Rattle.store_spec.proofs.Named.{AreNamed, named_none}
 use Rattle.store_spec.proofs.Switching.{IsAllowed}
-use Rattle.store_spec.proofs.Switched.{FrontAlone, BothTold, switch_keeps, new_log_is, old_log_is, new_header_is, back_log_is}
+use Rattle.store_spec.proofs.Switched.{FrontAlone, BothTold, switch_keeps, current_alone, new_none, new_log_is, old_log_is, new_header_is, back_log_is}
 use Rattle.store_spec.proofs.SwitchIndex.{index_over}
 use Rattle.store_spec.proofs.SwitchOpened.{files_ready, opened_over, opened_torn}
 use Rattle.store_spec.proofs.SwitchPins.{newest_over_told, newest_torn_told, pin_holds_over, pin_holds_torn}
@@ -187,6 +187,19 @@ readable_torn kept stop (Some told) (Some later) whole alone readable =
       log2 = both.1;
       main = subst (λ (main : List ℕ). kept.size * kept.page_size + 0 ≤ length main) (sym alone.main) readable.main;
     }
+
+-- the frames of page 1 in the current log name the page size after it too
+pub named_over : (kept : StoreData) (next : LogFields) (new : Option History)
+    → IfSome new (λ told. AreNamed kept.page_size (current_read (switched_pair kept.pair next) (reads told)))
+named_over kept next None = tt
+named_over kept next (Some later) = subst (AreNamed kept.page_size) (sym (new_none kept.pair next (reads later))) (named_none kept.page_size)
+
+pub named_torn : (kept : StoreData) (old new : Option History) → BothTold (FrontAlone kept.pair) old new
+    → IfSome old (λ told. AreNamed kept.page_size (current_read kept.pair (reads told))) → IfSome new (λ told. AreNamed kept.page_size (current_read kept.pair (reads told)))
+named_torn kept None None alone named = tt
+named_torn kept None (Some later) alone named = absurd alone
+named_torn kept (Some told) None alone named = absurd alone
+named_torn kept (Some told) (Some later) alone named = subst (AreNamed kept.page_size) (sym (current_alone kept.pair (reads told) (reads later) alone)) named
 
 module _ (kept : StoreData) (readers : Readers) (pins : List Pin) (salt2 : ℕ) (old new : Option History) (live : IsLiveStore old kept readers pins) (none : kept.stop ≡ None)
     (allowed : IsAllowed kept readers) where
