@@ -23,3 +23,13 @@ pub mod CommitRuns
 pub mod CommitAnswers
 pub mod CommitGood
 pub mod CommitSalts
+pub mod Named
+pub mod Switching
+pub mod Switched
+pub mod SwitchOpened
+pub mod SwitchIndex
+pub mod SwitchMaps
+pub mod SwitchPins
+pub mod SwitchLive
+pub mod SwitchRuns
+pub mod SwitchLaws
