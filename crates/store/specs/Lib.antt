@@ -5,3 +5,4 @@ pub mod Fetching
 pub mod Barring
 pub mod Planning
 pub mod Writing
+pub mod Tells

@@ -29,6 +29,7 @@ use Rattle.store_spec.specs.Standing.{IsWholeStore}
 use Rattle.store_spec.proofs.Commits.{one_longer}
 use Rattle.store_spec.proofs.Runs.{current_count, of_current, of_other}
 use Rattle.store_spec.proofs.Writing.{IsPairOf, current_header_of}
+pub use Rattle.store_spec.specs.Steady.{HasBegun}
 
 -- a part of a history has no more frames than all of it
 pub mark_within : (history : List Commit) (since n : ℕ) → since ≤ n → n ≤ length history → mark_at history since n ≤ length (frames_of (drop since history))
@@ -70,9 +71,6 @@ module _ (kept : StoreData) (pair : PairView) (more : List Frame) (before after 
       of_other pair pin after (of.generation ∙ sym (ap (λ (h : LogFields). h.generation) (current_header_of kept.pair pair same)))
       ∙ below_stays pin.mark ∙ sym (of_other kept.pair pin before of.generation)
 
--- the current log holds a commit, or none stands before it
-abbrev pub HasBegun : StoreData → Type 0
-HasBegun kept = (since_of kept < length kept.history) ⊎ (since_of kept ≡ 0)
 
 -- Another store, with the same commits before both logs, whose history has gone on.
 pub record GoesOnFrom (kept later : StoreData) (commits : List Commit) : Type 0 where

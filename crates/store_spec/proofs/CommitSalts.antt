@@ -8,9 +8,7 @@ use Rattle.store_spec.specs.Store.{StoreData}
 use Rattle.store_spec.specs.Standing.{IsWholeStore}
 use Rattle.store_spec.proofs.Writing.{IsPairOf}
 use Rattle.store_spec.proofs.Committed.{MayWriteOn}
-
-abbrev pub AreSalts : PairView → Type 0
-AreSalts pair = (pair.one.header.salt1 < 2 ^ 32) × (pair.two.header.salt1 < 2 ^ 32)
+pub use Rattle.store_spec.specs.Steady.{AreSalts}
 
 -- of each log
 pub salt_in : (pair : PairView) (log : ℕ) → AreSalts pair → (log_of pair log).header.salt1 < 2 ^ 32

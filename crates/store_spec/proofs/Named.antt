@@ -8,18 +8,12 @@ use Rattle.page_spec.specs.Header.{fields_of, page_size_in}
 use Rattle.log_spec.specs.Accept.{Frame, page_number, page_numbers, page_of}
 use Rattle.crash_spec.specs.Recovered.{page_after_frames}
 use Rattle.engine_spec.specs.declared.commits.PageImage.{PageImage}
+pub use Rattle.store_spec.specs.Steady.{NamesSize, AllName}
 use Rattle.engine_spec.proofs.Conflicts.{contains_cases, contains_more}
 use Rattle.log_commit.specs.Commit.{AreFramesOf, page_under}
 
--- A frame, where it is of page 1, names this page size; and so does each of some frames.
-abbrev pub NamesSize : ℕ → Frame → Type 0
-NamesSize size frame = page_number frame ≡ 1 → page_size_in (fields_of (page_of frame)) ≡ size
-
-abbrev pub AreNamed : ℕ → List Frame → Type 0
-AreNamed size frames = All (NamesSize size) frames
-
 -- so a page 1 after such frames names it, where they hold it or what lies below names it
-pub named_after : (size : ℕ) (frames : List Frame) (below : List ℕ) → AreNamed size frames → Contains (page_numbers frames) 1 ⊎ (page_size_in (fields_of below) ≡ size)
+pub named_after : (size : ℕ) (frames : List Frame) (below : List ℕ) → AllName size frames → Contains (page_numbers frames) 1 ⊎ (page_size_in (fields_of below) ≡ size)
     → page_size_in (fields_of (page_after_frames frames 1 below)) ≡ size
 named_after size [] below named (inl there) = absurd (let low = there.1 in omega arith)
 named_after size [] below named (inr is) = is
@@ -39,14 +33,14 @@ named_after size (frame ∷ rest) below named has =
     ]
 
 -- no frames, and more frames
-pub named_none : (size : ℕ) → AreNamed size []
+pub named_none : (size : ℕ) → AllName size []
 named_none size = All-nil (NamesSize size)
 
-pub named_more : (size : ℕ) (frames more : List Frame) → AreNamed size frames → AreNamed size more → AreNamed size (frames ++ more)
+pub named_more : (size : ℕ) (frames more : List Frame) → AllName size frames → AllName size more → AllName size (frames ++ more)
 named_more size frames more = All-append (NamesSize size) frames more
 
 -- frames of other pages than page 1
-named_others : (size : ℕ) (images : List PageImage) (frames : List Frame) → AreFramesOf images frames → (Contains (map (λ image. image.page) images) 1 → ⊥) → AreNamed size frames
+named_others : (size : ℕ) (images : List PageImage) (frames : List Frame) → AreFramesOf images frames → (Contains (map (λ image. image.page) images) 1 → ⊥) → AllName size frames
 named_others size [] [] are none = named_none size
 named_others size [] (frame ∷ frames) are none = absurd are
 named_others size (image ∷ images) [] are none = absurd are
@@ -64,7 +58,7 @@ under_others (image ∷ images) below none =
 
 -- the frames of a commit, which has one image of page 1, and names the page size
 pub named_commit : (size : ℕ) (first : PageImage) (images : List PageImage) (more : List Frame) → AreFramesOf (first ∷ images) more → first.page ≡ 1
-    → (Contains (map (λ image. image.page) images) 1 → ⊥) → ((below : List ℕ) → page_size_in (fields_of (page_under (first ∷ images) 1 below)) ≡ size) → AreNamed size more
+    → (Contains (map (λ image. image.page) images) 1 → ⊥) → ((below : List ℕ) → page_size_in (fields_of (page_under (first ∷ images) 1 below)) ≡ size) → AllName size more
 named_commit size first images [] are one none named = absurd are
 named_commit size first images (frame ∷ frames) (same, bytes, are) one none named =
     All-cons (NamesSize size) frame frames

@@ -17,7 +17,7 @@ use Rattle.store_spec.specs.Store.{StoreData, KeptStop, current_read, newest_tol
 use Rattle.store_spec.specs.Pins.{PinHolds}
 use Rattle.store_spec.specs.Steps.{HasCleared, HasSwitched, gone_over, stopped}
 use Rattle.store_spec.specs.Standing.{IsOpenedAt, IsLiveStore, StandsFrom}
-use Rattle.store_spec.proofs.Named.{AreNamed}
+use Rattle.store_spec.proofs.Named.{AllName}
 use Rattle.store_spec.proofs.Switching.{allowed, moments, moments_so}
 use Rattle.store_spec.proofs.Switched.{FrontAlone, BothTold, switch_keeps}
 use Rattle.store_spec.proofs.SwitchIndex.{other_is_3, logs_to_write}
@@ -62,7 +62,7 @@ module _ (kept : StoreData) (readers : Readers) (pins : List Pin) (salt2 : ℕ) 
         (newest_over_told kept readers live.whole (allowed kept readers may) salt2 has.sum index cleared old new (kept_alone kept true pair salt2 old new has) ready)
 
     -- with frames of page 1 that name the page size
-    module _ (named : IfSome old (λ told. AreNamed kept.page_size (current_read kept.pair (reads told)))) where
+    module _ (named : IfSome old (λ told. AllName kept.page_size (current_read kept.pair (reads told)))) where
       pub gone_pin : (pin : Pin) → Contains pins pin → pin_told (gone_over kept pair index) new pin ≡ pin_told kept old pin
       gone_pin pin there =
           let holds = All-contains (PinHolds old kept) pins pin live.hold there in

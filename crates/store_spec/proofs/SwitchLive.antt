@@ -22,7 +22,7 @@ use Rattle.store_spec.specs.Pins.{PinHolds}
 use Rattle.store_spec.specs.Steps.{HasCleared, HasSwitched, gone_over, stopped}
 use Rattle.store_spec.specs.Standing.{IsWholeStore, IsCountedLog, IsReadable, IsOpenedAt, IsLiveStore}
 use Rattle.store_spec.proofs.Runs.{counted_of}
-use Rattle.store_spec.proofs.Named.{AreNamed, named_none}
+use Rattle.store_spec.proofs.Named.{AllName, named_none}
 use Rattle.store_spec.proofs.Switching.{IsAllowed}
 use Rattle.store_spec.proofs.Switched.{FrontAlone, BothTold, switch_keeps, current_alone, new_none, new_log_is, old_log_is, new_header_is, back_log_is}
 use Rattle.store_spec.proofs.SwitchIndex.{index_over}
@@ -190,22 +190,22 @@ readable_torn kept stop (Some told) (Some later) whole alone readable =
 
 -- the frames of page 1 in the current log name the page size after it too
 pub named_over : (kept : StoreData) (next : LogFields) (new : Option History)
-    → IfSome new (λ told. AreNamed kept.page_size (current_read (switched_pair kept.pair next) (reads told)))
+    → IfSome new (λ told. AllName kept.page_size (current_read (switched_pair kept.pair next) (reads told)))
 named_over kept next None = tt
-named_over kept next (Some later) = subst (AreNamed kept.page_size) (sym (new_none kept.pair next (reads later))) (named_none kept.page_size)
+named_over kept next (Some later) = subst (AllName kept.page_size) (sym (new_none kept.pair next (reads later))) (named_none kept.page_size)
 
 pub named_torn : (kept : StoreData) (old new : Option History) → BothTold (FrontAlone kept.pair) old new
-    → IfSome old (λ told. AreNamed kept.page_size (current_read kept.pair (reads told))) → IfSome new (λ told. AreNamed kept.page_size (current_read kept.pair (reads told)))
+    → IfSome old (λ told. AllName kept.page_size (current_read kept.pair (reads told))) → IfSome new (λ told. AllName kept.page_size (current_read kept.pair (reads told)))
 named_torn kept None None alone named = tt
 named_torn kept None (Some later) alone named = absurd alone
 named_torn kept (Some told) None alone named = absurd alone
-named_torn kept (Some told) (Some later) alone named = subst (AreNamed kept.page_size) (sym (current_alone kept.pair (reads told) (reads later) alone)) named
+named_torn kept (Some told) (Some later) alone named = subst (AllName kept.page_size) (sym (current_alone kept.pair (reads told) (reads later) alone)) named
 
 module _ (kept : StoreData) (readers : Readers) (pins : List Pin) (salt2 : ℕ) (old new : Option History) (live : IsLiveStore old kept readers pins) (none : kept.stop ≡ None)
     (allowed : IsAllowed kept readers) where
   -- The store that has gone over is live, with the same pins.
   pub live_over : (pair : PairView) (index : Indexed) → HasCleared kept index → HasSwitched kept true pair salt2 old new
-      → IfSome old (λ told. AreNamed kept.page_size (current_read kept.pair (reads told))) → IsLiveStore new (gone_over kept pair index) readers pins
+      → IfSome old (λ told. AllName kept.page_size (current_read kept.pair (reads told))) → IsLiveStore new (gone_over kept pair index) readers pins
   live_over pair index cleared has named =
       let alone = switch_keeps true kept.pair has.bytes old new has.switches.is.whole has.switches.steps in
       let ready = files_ready kept readers none live.whole allowed live.opening old live.opened in

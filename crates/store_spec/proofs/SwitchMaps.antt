@@ -21,7 +21,7 @@ use Rattle.log_pair.specs.Pair.{PairView, switched_pair}
 use Rattle.store_spec.specs.Store.{StoreData, current_read, other_read, map_over, map_below, since_of, other_since_of}
 use Rattle.store_spec.specs.Pins.{IsFront, mark_at}
 use Rattle.store_spec.specs.Standing.{IsWholeStore}
-use Rattle.store_spec.proofs.Named.{NamesSize, AreNamed, named_after}
+use Rattle.store_spec.proofs.Named.{NamesSize, AllName, named_after}
 use Rattle.store_spec.proofs.Switching.{IsAllowed}
 use Rattle.store_spec.proofs.Switched.{FrontAlone, current_alone, other_alone, old_all}
 use Rattle.store_spec.proofs.SwitchIndex.{other_is_3}
@@ -67,7 +67,7 @@ module _ (kept : StoreData) (whole : IsWholeStore kept) (files : Files) (there :
       (omega (arith, length-take (n - since_of kept) commits, length-drop (since_of kept) kept.history)))
 
   -- and names the page size
-  pub front_named : AreNamed kept.page_size (current_read kept.pair files) → (n : ℕ) → since_of kept < n → n ≤ length kept.history
+  pub front_named : AllName kept.page_size (current_read kept.pair files) → (n : ℕ) → since_of kept < n → n ≤ length kept.history
       → named_size files.main (other_read kept.pair files) (take (mark_at kept.history (since_of kept) n) (current_read kept.pair files)) ≡ kept.page_size
   front_named named n held most =
       named_after kept.page_size (take (mark_at kept.history (since_of kept) n) (current_read kept.pair files)) (page_after_frames (other_read kept.pair files) 1 (take 100 files.main))
@@ -94,7 +94,7 @@ module _ (kept : StoreData) (readers : Readers) (whole : IsWholeStore kept) (all
     ]
   ]
 
-  module _ (files : Files) (ready : IsReady kept files) (named : AreNamed kept.page_size (current_read kept.pair files)) where
+  module _ (files : Files) (ready : IsReady kept files) (named : AllName kept.page_size (current_read kept.pair files)) where
     -- where no commit stands before the current log, the other one has no frames
     other_none : since_of kept ≡ 0 → other_read kept.pair files ≡ []
     other_none none =

@@ -23,7 +23,7 @@ use Rattle.store_spec.specs.Steps.{HasCleared, gone_over, stopped}
 use Rattle.store_spec.specs.Standing.{IsWholeStore}
 use Rattle.store_spec.proofs.Counting.{has_reader, holders_are}
 use Rattle.store_spec.proofs.Runs.{of_current, of_other}
-use Rattle.store_spec.proofs.Named.{AreNamed}
+use Rattle.store_spec.proofs.Named.{AllName}
 use Rattle.store_spec.proofs.Switching.{IsAllowed}
 use Rattle.store_spec.proofs.Switched.{FrontAlone, BothTold, newest_alone, newest_over, new_header_is, other_of_other}
 use Rattle.store_spec.proofs.SwitchIndex.{since_over, other_since_over}
@@ -114,7 +114,7 @@ module _ (kept : StoreData) (readers : Readers) (whole : IsWholeStore kept) (all
     }
 
     -- with the same map
-    pub pin_map_over : (one other : Files) → FrontAlone kept.pair one other → IsReady kept one → AreNamed kept.page_size (current_read kept.pair one)
+    pub pin_map_over : (one other : Files) → FrontAlone kept.pair one other → IsReady kept one → AllName kept.page_size (current_read kept.pair one)
         → pin_map_in over pin other ≡ pin_map_in kept.pair pin one
     pin_map_over one other alone ready named =
         of_other over pin other older_generation
@@ -124,7 +124,7 @@ module _ (kept : StoreData) (readers : Readers) (whole : IsWholeStore kept) (all
         ∙ sym (of_current kept.pair pin one current.generation)
 
     pub pin_over_told : (old new : Option History) → BothTold (FrontAlone kept.pair) old new → IfSome old (λ told. IsReady kept (reads told))
-        → IfSome old (λ told. AreNamed kept.page_size (current_read kept.pair (reads told))) → pin_told (gone_over kept over index) new pin ≡ pin_told kept old pin
+        → IfSome old (λ told. AllName kept.page_size (current_read kept.pair (reads told))) → pin_told (gone_over kept over index) new pin ≡ pin_told kept old pin
     pin_over_told None None alone ready named = refl
     pin_over_told None (Some later) alone ready named = absurd alone
     pin_over_told (Some told) None alone ready named = absurd alone
@@ -132,7 +132,7 @@ module _ (kept : StoreData) (readers : Readers) (whole : IsWholeStore kept) (all
 
   -- A pin that held holds, of the other log now.
   pub pin_holds_over : (old new : Option History) → BothTold (FrontAlone kept.pair) old new → IfSome old (λ told. IsReady kept (reads told))
-      → IfSome old (λ told. AreNamed kept.page_size (current_read kept.pair (reads told)))
+      → IfSome old (λ told. AllName kept.page_size (current_read kept.pair (reads told)))
       → (pins : List Pin) → AreCounted readers pins → (pin : Pin) → Contains pins pin → PinHolds old kept pin → PinHolds new (gone_over kept over index) pin
   pin_holds_over old new alone ready named pins counted pin there holds =
       let (current, part) = of_front kept readers whole allowed pins counted pin there holds.place in
@@ -144,7 +144,7 @@ module _ (kept : StoreData) (readers : Readers) (whole : IsWholeStore kept) (all
       }
     where
       sized : IsOfCurrent kept pin → (old new : Option History) → BothTold (FrontAlone kept.pair) old new → IfSome old (λ told. IsReady kept (reads told))
-          → IfSome old (λ told. AreNamed kept.page_size (current_read kept.pair (reads told)))
+          → IfSome old (λ told. AllName kept.page_size (current_read kept.pair (reads told)))
           → IfSome old (λ told. HasSizes (pin_map_in kept.pair pin (reads told)) pin.size kept.page_size) → IfSome new (λ told. HasSizes (pin_map_in over pin (reads told)) pin.size kept.page_size)
       sized current None None alone ready named sizes = tt
       sized current None (Some later) alone ready named sizes = absurd alone
@@ -153,7 +153,7 @@ module _ (kept : StoreData) (readers : Readers) (whole : IsWholeStore kept) (all
           subst (λ (pages : PageMap). HasSizes pages pin.size kept.page_size) (sym (pin_map_over pin current (reads told) (reads later) alone ready named)) sizes
 
       agreed : IsOfCurrent kept pin → (old new : Option History) → BothTold (FrontAlone kept.pair) old new → IfSome old (λ told. IsReady kept (reads told))
-          → IfSome old (λ told. AreNamed kept.page_size (current_read kept.pair (reads told)))
+          → IfSome old (λ told. AllName kept.page_size (current_read kept.pair (reads told)))
           → IfSome old (λ told. (mode : Mode) (numbers : List ℕ) → NoConflict mode numbers pin.n kept.history → (mode ≡ Plain → Contains numbers 1)
           → MayLayOn mode (pin_map_in kept.pair pin (reads told)) numbers (newest_in kept.pair (reads told)))
           → IfSome new (λ told. (mode : Mode) (numbers : List ℕ) → NoConflict mode numbers pin.n kept.history → (mode ≡ Plain → Contains numbers 1)

@@ -20,7 +20,7 @@ use Rattle.store_spec.specs.Store.{StoreData, KeptStop, current_read, other_read
 use Rattle.store_spec.specs.Pins.{IsFront, IsOlderFront, mark_at}
 use Rattle.store_spec.specs.Steps.{HasCleared, HasSwitched, gone_over, stopped}
 use Rattle.store_spec.specs.Standing.{IsWholeStore, IsLiveStore, StandsFrom}
-use Rattle.store_spec.proofs.Named.{AreNamed}
+use Rattle.store_spec.proofs.Named.{AllName}
 use Rattle.store_spec.proofs.Switching.{IsAllowed}
 use Rattle.store_spec.proofs.Switched.{FrontAlone, BothTold, switch_keeps, newest_alone, newest_over, new_none}
 use Rattle.store_spec.proofs.SwitchIndex.{since_over}
@@ -67,7 +67,7 @@ module _ (sound : PageMap → Type 0) (leads : PageMap → List (List ℕ) → P
         (subst (IsReached kept.history) (sym (over_none kept.pair header (mark_at kept.history (since_of (gone_over kept over index)) n) (reads later))) newest)
 
     older : (old new : Option History) → BothTold (FrontAlone kept.pair) old new → IfSome old (λ told. IsReady kept (reads told))
-        → IfSome old (λ told. AreNamed kept.page_size (current_read kept.pair (reads told))) → StandsFrom sound leads first old kept readers
+        → IfSome old (λ told. AllName kept.page_size (current_read kept.pair (reads told))) → StandsFrom sound leads first old kept readers
         → IfSome new (λ told. (n : ℕ) → IsOlderFront (gone_over kept over index) n
         → IsReached (take n kept.history) (map_below over (mark_at kept.history (other_since_of (gone_over kept over index)) n) (reads told)))
     older None None alone ready named stands = tt
@@ -81,7 +81,7 @@ module _ (sound : PageMap → Type 0) (leads : PageMap → List (List ℕ) → P
 
     -- The fronts of the current log are those of the other one, and the new current log has none but the newest.
     pub stands_over : (old new : Option History) → BothTold (FrontAlone kept.pair) old new → IfSome old (λ told. IsReady kept (reads told))
-        → IfSome old (λ told. AreNamed kept.page_size (current_read kept.pair (reads told))) → StandsFrom sound leads first old kept readers
+        → IfSome old (λ told. AllName kept.page_size (current_read kept.pair (reads told))) → StandsFrom sound leads first old kept readers
         → StandsFrom sound leads first new (gone_over kept over index) readers
     stands_over old new alone ready named stands = record {
       snaps = stands.snaps;
@@ -111,7 +111,7 @@ module _ (sound : PageMap → Type 0) (leads : PageMap → List (List ℕ) → P
       (stands : StandsFrom sound leads first old kept readers) where
     -- By what the switch was answered.
     pub runs_over : (pair : PairView) (index : Indexed) → HasCleared kept index → HasSwitched kept true pair salt2 old new
-        → IfSome old (λ told. AreNamed kept.page_size (current_read kept.pair (reads told))) → StandsFrom sound leads first new (gone_over kept pair index) readers
+        → IfSome old (λ told. AllName kept.page_size (current_read kept.pair (reads told))) → StandsFrom sound leads first new (gone_over kept pair index) readers
     runs_over pair index cleared has named =
         subst (λ (p : PairView). StandsFrom sound leads first new (gone_over kept p index) readers) (sym has.switches.becomes)
         (stands_over live.whole allowed salt2 has.sum index cleared old new (switch_keeps true kept.pair has.bytes old new has.switches.is.whole has.switches.steps)

@@ -4,3 +4,4 @@ pub mod Standing
 pub mod Steps
 pub mod Named
 pub mod Reading
+pub mod Steady
