@@ -8,7 +8,7 @@ use Rattle.engine_spec.specs.declared.pins.Readers.{Readers}
 use Rattle.engine_spec.specs.State.{EngineState}
 use Rattle.wal_index.specs.Index.{Indexed, IndexedLog}
 use Rattle.store_spec.specs.Store.{KeptStop, StoreData, store_state}
-use Rattle.store_spec.specs.Named.{AreNamed}
+use Rattle.store_spec.specs.Steady.{IsSteady}
 use Rattle.store_spec.specs.Standing.{IsLiveStore}
 use Rattle.store.specs.Halts.{KeptPages, images_in}
 use Rattle.store.specs.declared.store.Store.{Store}
@@ -44,11 +44,11 @@ pub record IsAble {D W M : Type 0} (disk : DiskGhosts D) (store : Store D W M) :
   pub room : length store.buf.items ≡ store.page_size
   pub none_kept : store.stop ≡ None → (store.spare.pages ≡ []) × (store.spare.bytes ≡ [])
 
--- The store is whole, these pins hold in it, which are counted among the readers, and its maps name its page size.
+-- The store is whole, and these pins hold in it, which are counted among the readers.
 pub record IsLiveIn {D W M : Type 0} (disk : DiskGhosts D) (store : Store D W M) (readers : Readers) (pins : List Pin) : Type 0 where
   pub able : IsAble disk store
   pub live : IsLiveStore (disk.told store.disk) (kept_of store) readers pins
-  pub named : AreNamed (disk.told store.disk) (kept_of store) readers
+  pub steady : IsSteady (disk.told store.disk) (kept_of store) readers pins
 
 -- what the store tells, with its readers beside it
 abbrev pub state_of : {D W M : Type 0} → DiskGhosts D → Store D W M → Readers → EngineState

@@ -3,6 +3,7 @@
 
 mod bar;
 mod ckpt;
+mod commit;
 mod commits;
 mod fetch;
 mod kept_pages;

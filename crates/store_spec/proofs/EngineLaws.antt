@@ -58,6 +58,9 @@ own_there from (suc count) number there = elim (contains_cases from number (numb
   | inr later ↦ (let rest = own_there (from + 1) count number later in (omega (arith, rest.0), omega (arith, rest.1)))
 ]
 
+pub own_in : (count number : ℕ) → Contains (numbers_from 1 count) number → (1 ≤ number) × (number ≤ count)
+own_in count number there = let own = own_there 1 count number there in (own.0, omega (arith, own.1))
+
 -- the maps that a crash may leave, by what the files hold
 abbrev stop_in : StoreData → Files → KeptStop → Stop
 stop_in kept files stop = record { log = stop.log; at = stop.at; map = Some (map_under (newest_in kept.pair files) stop.images stop.size) }

@@ -17,4 +17,4 @@ returns-clause-read g c =
     subst (λ (bytes : List ℕ). OnOk c.read_page.result (IfSome (newest_told (kept_of c.args.self.now) (g.D.DiskTells.told c.args.self.now.disk)) (λ pages. bytes ≡ page_at pages 1)))
     (sym (written_back c.args.self.now.buf.items c.read_page.new.buf c.args.self.now.buf.len c.args.self.now.buf.ok.0 same))
     (newest_read c.read_page.result (g.D.DiskTells.told c.args.self.now.disk) (kept_of c.args.self.now) c.requires.live.0 c.requires.live.1 c.find_newest-found.result c.read_page.new.buf c.requires.live.2.live
-    c.requires.live.2.named c.find_newest-found.ensures (same ∙ c.requires.live.2.able.room) c.read_page.ensures.read)
+    c.requires.live.2.steady.named c.find_newest-found.ensures (same ∙ c.requires.live.2.able.room) c.read_page.ensures.read)
