@@ -2,3 +2,4 @@ mod Zipped
 mod Bare
 mod Fetched
 mod Buffers
+mod Images

@@ -6,6 +6,7 @@ mod ckpt;
 mod commit;
 mod commits;
 mod fetch;
+mod halt;
 mod kept_pages;
 mod lay;
 mod plan;
