@@ -5,8 +5,11 @@
 #![tactic(auto)]
 
 mod header;
+mod judge;
 mod pages;
 mod place;
+mod places;
+mod scan;
 mod seen;
 mod settle;
 mod setup;
