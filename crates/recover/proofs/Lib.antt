@@ -3,4 +3,8 @@ mod Laying
 mod Resets
 mod Page1
 mod Missing
+mod FirstRead
+mod PlacesHold
+mod LogsRead
+mod Page1Read
 pub mod First

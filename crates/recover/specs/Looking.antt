@@ -110,10 +110,18 @@ abbrev pub IsPage1 : Files → Place → Option First → Type 0
 IsPage1 files place None = is_new_in files ≡ true
 IsPage1 files place (Some first) = (is_new_in files ≡ false) × TellsFirst (bytes_at files place) (length files.main) first
 
+-- What was found of both logs is of these files.
+pub record AreScanned (files : Files) (first second : Accepted) : Type 0 where
+  pub one : FindsAccepted 1 files.log1 first
+  pub two : FindsAccepted 2 files.log2 second
+
+-- nothing is there yet, by what was read
+abbrev pub is_new_read : Accepted → Accepted → ℕ → Bool
+is_new_read one two main = main == 0 && not (is_some_list one.pages.items || is_some_list two.pages.items)
+
 -- What was read is of these files.
 pub record AreRead (files : Files) (looked : Looked) : Type 0 where
-  pub one : FindsAccepted 1 files.log1 looked.one
-  pub two : FindsAccepted 2 files.log2 looked.two
+  pub logs : AreScanned files looked.one looked.two
   pub main : looked.main ≡ length files.main
   pub page1 : IsPage1 files (place_in looked.one looked.two 1) looked.page1
 

@@ -11,9 +11,10 @@ ghost use Rattle.disk_face.specs.Told.{IsSize, IsInside, IsRead};
 ghost use Rattle.page_spec.specs.Header.{is_page_size};
 ghost use Rattle.db_header.specs.Header.{refusal, IsTold};
 ghost use Rattle.wal_frames.specs.Found.{FindsAccepted, IsLegal, log_file};
-ghost use Rattle.recover.specs.Looking.{TellsFirst, AreRead, IsLegalLook, IsOutside, IsHeaderFault, is_disk_well, size_counts, bytes_at, first_size_at, file_of, start_of, FitsFirst, IsFirstFault};
+ghost use Rattle.recover.specs.Looking.{TellsFirst, AreRead, IsLegalLook, IsOutside, IsHeaderFault, is_disk_well, size_counts, bytes_at, first_size_at, file_of, start_of, FitsFirst, IsFirstFault, AreLegal, AreScanned, IsPage1, place_in, is_new_read};
 
 use crate::place::Place;
+use crate::places::first_place;
 use crate::seen::LookFault;
 use db_header::{Header, HeaderFault, read_header};
 use be_fields::get_u32;
@@ -141,6 +142,32 @@ fn read_place<D: Disk>(disk: &mut D, place: Place, bytes: &mut [u8]) -> Result<(
     }
 }
 
+/// Reads the first bytes of page 1 into the buffer, which has room for just these, and says what they tell.
+fn tell_place<D: Disk>(
+    disk: &mut D,
+    place: Place,
+    main: u64,
+    bytes: &mut [u8],
+) -> Result<First, LookFault>
+    requires attached { D.attached disk.old ≡ true }
+    requires sized { IsSize (D.told disk.old) File.Main main }
+    requires fits { IfSome (D.told disk.old) (λ told. FitsFirst (reads told) place) }
+    requires room { length bytes.old ≡ first_size_at main place }
+    ensures told { IfOk result (λ first. IfSome (D.told disk.old) (λ told. TellsFirst (bytes_at (reads told) place) main first)) }
+    ensures legal { IfOk result (λ first. IsTold first.header) }
+    ensures refused { IfErr result (λ why. IsFirstFault (D.told disk.old) place main why) }
+    ensures stays { OnlyReads D.DiskTells disk.old disk.new }
+    ensures faults { Counts (is_disk_well result) (D.faults disk.old) (D.faults disk.new) }
+{
+    match read_place(disk, place, bytes) {
+        Ok(()) => match tell_first(bytes, main) {
+            Ok(first) => Ok(first),
+            Err(fault) => Err(LookFault::Header(fault)),
+        },
+        Err(_) => Err(LookFault::Disk),
+    }
+}
+
 /// Reads the first bytes of page 1, and says what they tell.
 fn read_first<D: Disk>(disk: &mut D, place: Place, main: u64) -> Result<First, LookFault>
     requires attached { D.attached disk.old ≡ true }
@@ -154,12 +181,84 @@ fn read_first<D: Disk>(disk: &mut D, place: Place, main: u64) -> Result<First, L
 {
     let mut room = [0u8; FIRST_SIZE];
     let count = first_size(place, main);
-    let bytes = &mut room[..count];
-    match read_place(disk, place, bytes) {
-        Ok(()) => match tell_first(bytes, main) {
-            Ok(first) => Ok(first),
-            Err(fault) => Err(LookFault::Header(fault)),
+    tell_place(disk, place, main, &mut room[..count])
+}
+
+/// Nothing is there yet: Main is empty, and no log has an accepted frame.
+fn is_new(one: &Accepted, two: &Accepted, main: u64) -> bool
+    ensures { result ≡ is_new_read one.now two.now main }
+{
+    main == 0 && one.pages.is_empty() && two.pages.is_empty()
+}
+
+/// Reads the first bytes of page 1, unless nothing is there yet.
+fn read_page1<D: Disk>(
+    disk: &mut D,
+    one: &Accepted,
+    two: &Accepted,
+    main: u64,
+) -> Result<Option<First>, LookFault>
+    requires attached { D.attached disk.old ≡ true }
+    requires logs { AreLegal one.now two.now }
+    requires scanned { IfSome (D.told disk.old) (λ told. AreScanned (reads told) one.now two.now) }
+    requires sized { IsSize (D.told disk.old) File.Main main }
+    ensures told { IfOk result (λ page1. IfSome (D.told disk.old) (λ told. IsPage1 (reads told) (place_in one.now two.now 1) page1)) }
+    ensures legal { IfOk result (λ page1. IfSome page1 (λ first. IsTold first.header)) }
+    ensures refused { IfErr result (λ why. IsHeaderFault (D.told disk.old) why) }
+    ensures stays { OnlyReads D.DiskTells disk.old disk.new }
+    ensures faults { Counts (is_disk_well result) (D.faults disk.old) (D.faults disk.new) }
+{
+    if is_new(one, two, main) {
+        return Ok(None);
+    }
+    match read_first(disk, first_place(one, two), main) {
+        Ok(first) => Ok(Some(first)),
+        Err(fault) => Err(fault),
+    }
+}
+
+/// What is accepted of both logs, log 1 first.
+fn scan_logs<D: Disk>(alloc: Global, disk: &mut D) -> Result<(Accepted, Accepted), LookFault>
+    requires { D.attached disk.old ≡ true }
+    ensures scanned { IfOk result (λ logs. IfSome (D.told disk.old) (λ told. AreScanned (reads told) logs.0 logs.1)) }
+    ensures legal { IfOk result (λ logs. AreLegal logs.0 logs.1) }
+    ensures fault { IfErr result IsOutside }
+    ensures stays { OnlyReads D.DiskTells disk.old disk.new }
+    ensures faults { Counts (is_disk_well result) (D.faults disk.old) (D.faults disk.new) }
+{
+    match scan_log(alloc, disk, 1) {
+        Ok(one) => match scan_log(alloc, disk, 2) {
+            Ok(two) => Ok((one, two)),
+            Err(fault) => Err(fault),
         },
-        Err(_) => Err(LookFault::Disk),
+        Err(fault) => Err(fault),
+    }
+}
+
+/// Reads what an opening looks at, but for the journal: both logs, Main's length, and the first bytes of page 1.
+pub(crate) fn read_files<D: Disk>(alloc: Global, disk: &mut D) -> Result<Looked, LookFault>
+    requires { D.attached disk.old ≡ true }
+    ensures read { IfOk result (λ looked. IfSome (D.told disk.old) (λ told. AreRead (reads told) looked)) }
+    ensures legal { IfOk result (λ looked. IsLegalLook looked) }
+    ensures refused { IfErr result (λ why. IsHeaderFault (D.told disk.old) why) }
+    ensures stays { OnlyReads D.DiskTells disk.old disk.new }
+    ensures faults { Counts (is_disk_well result) (D.faults disk.old) (D.faults disk.new) }
+{
+    match scan_logs(alloc, disk) {
+        Ok((one, two)) => {
+            let Ok(main) = disk.size(File::Main) else {
+                return Err(LookFault::Disk);
+            };
+            match read_page1(disk, &one, &two, main) {
+                Ok(page1) => Ok(Looked {
+                    one,
+                    two,
+                    main,
+                    page1,
+                }),
+                Err(fault) => Err(fault),
+            }
+        }
+        Err(fault) => Err(fault),
     }
 }
