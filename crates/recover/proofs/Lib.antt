@@ -7,4 +7,7 @@ mod FirstRead
 mod PlacesHold
 mod LogsRead
 mod Page1Read
+mod Held
+mod SizesRead
+mod SeenOld
 pub mod First

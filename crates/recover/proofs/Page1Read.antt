@@ -31,7 +31,7 @@ use Rattle.recover.proofs.Page1.{refusal_alike}
 abbrev pub IsRoomy : ℕ → Type 0
 IsRoomy n = 512 ≤ n
 
-roomy_size : (n : ℕ) → is_page_size n ≡ true → 512 ≤ n
+pub roomy_size : (n : ℕ) → is_page_size n ≡ true → 512 ≤ n
 unfolding is_page_size
 roomy_size n is = grind (arith, nat_tests)
 

@@ -1,7 +1,7 @@
 -- What is read of a database's files before they are judged, where a page stands by the page numbers of both logs, and what bars an opening
 -- by what was read.
 use Rattle.std.specs.List.{list_any}
-use Rattle.std.specs.Prelude.{◌≡◌, ℕ, ◌+◌, ◌*◌, ◌-◌, ◌<◌, ◌≤◌, ◌==◌, nat_lt, nat_le, Bool, true, false, ◌&&◌, ◌||◌, not, if◌then◌else◌, List, [], ◌∷◌, ◌++◌, length, take, drop, slice_index, slice_index_or, Option, Some, None, IfSome, Result, Ok, Err}
+use Rattle.std.specs.Prelude.{◌≡◌, ℕ, ◌+◌, ◌*◌, ◌-◌, ◌<◌, ◌≤◌, ◌==◌, max, nat_lt, nat_le, Bool, true, false, ◌&&◌, ◌||◌, not, if◌then◌else◌, List, [], ◌∷◌, ◌++◌, length, take, drop, slice_index, slice_index_or, Option, Some, None, IfSome, Result, Ok, Err}
 use Rattle.disk_face.specs.declared.disk.File.{File}
 use Rattle.disk_face.specs.declared.disk.File.TheVariants.{Main, Log1, Log2}
 use Rattle.disk_face.specs.Files.{Files, content}
@@ -15,7 +15,7 @@ use Rattle.wal_frames.specs.declared.header.Front.TheVariants.{Nothing, Foreign,
 use Rattle.wal_frames.specs.declared.found.Accepted.{Accepted}
 use Rattle.wal_frames.specs.Found.{FindsAccepted, IsLegal}
 use Rattle.recover.specs.Headers.{generation_in}
-use Rattle.recover.specs.Seeing.{is_new_in, header_fault, of_legacy, foreign_fault, of_size, is_some_list, first_fault, first_missing, higher_log, last_written, newest_of}
+use Rattle.recover.specs.Seeing.{is_new_in, header_fault, missing_fault, of_legacy, foreign_fault, of_size, is_some_list, first_fault, first_missing, higher_log, last_written, newest_of}
 use Rattle.recover.specs.declared.place.Place.{Place}
 use Rattle.recover.specs.declared.place.Place.TheVariants.{InMain, InLog}
 use Rattle.recover.specs.declared.scan.First.{First}
@@ -136,6 +136,19 @@ pub record IsLegalLook (looked : Looked) : Type 0 where
   pub logs : AreLegal looked.one looked.two
   pub told : IfSome looked.page1 (λ first. IsTold first.header)
 
+-- the size in pages after a log whose last commit has this size, 0 where it has none
+abbrev pub size_over : ℕ → ℕ → ℕ
+size_over size below = if size == 0 then below else size
+
+-- the size in pages of the recovered map, where page 1 gives so many
+abbrev pub pages_read : Accepted → Accepted → ℕ → ℕ
+pages_read one two given =
+    if nat_lt (generation_in one.front) (generation_in two.front) then size_over two.size (size_over one.size given) else size_over one.size (size_over two.size given)
+
+-- the size in pages that page 1 names for Main, once it has so many
+abbrev pub named_read : First → ℕ → ℕ
+named_read first count = if first.counts then first.header.pages else max first.header.pages count
+
 -- What bars an opening by what was read, in the order in which faults are told.
 
 abbrev pub wal_read : Option First → Front → Option LookFault
@@ -203,6 +216,12 @@ abbrev pub IsMissing : (ℕ → Bool) → ℕ → LookFault → Type 0
 IsMissing held count Memory = Unit {0}
 IsMissing held count (Missing page) = first_missing held 1 count ≡ Some page
 IsMissing held count fault = ⊥
+
+-- The fault is want of memory, or the first page of any files that this was read of that isn't there whole.
+abbrev pub IsSeenFault : Looked → LookFault → Type 0
+IsSeenFault looked Memory = Unit {0}
+IsSeenFault looked (Missing page) = (files : Files) → AreRead files looked → missing_fault files ≡ Some (Missing page)
+IsSeenFault looked fault = ⊥
 
 -- the disk did its part
 abbrev pub is_disk_well : {T : Type 0} → Result T LookFault → Bool

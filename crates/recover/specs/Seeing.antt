@@ -5,6 +5,7 @@ use Rattle.disk_face.specs.declared.disk.File.{File}
 use Rattle.disk_face.specs.declared.disk.File.TheVariants.{Log1, Log2}
 use Rattle.disk_face.specs.Faults.{Rose}
 use Rattle.disk_face.specs.Files.{Files}
+use Rattle.disk_face.specs.Steps.{History, reads}
 use Rattle.page_spec.specs.Header.{fields_of, page_size_in, pages_in, is_page_size}
 use Rattle.page_spec.specs.PageMap.{PageMap, page_at}
 use Rattle.log_spec.specs.LogHeader.{last_generation}
@@ -204,6 +205,11 @@ fault_of files hot = first_fault (
     ∷ room_fault files
     ∷ missing_fault files
     ∷ [])
+
+-- the files of a disk that tells them
+abbrev pub files_told : Option History → Option Files
+files_told None = None
+files_told (Some told) = Some (reads told)
 
 -- A look at a disk was answered so: a fault of the files is told exactly where it is the first one, and a failed disk only where the count
 -- of faults rose.

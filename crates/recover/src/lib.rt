@@ -6,6 +6,7 @@
 
 mod header;
 mod judge;
+mod look;
 mod pages;
 mod place;
 mod places;
