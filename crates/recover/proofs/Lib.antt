@@ -10,4 +10,5 @@ mod Page1Read
 mod Held
 mod SizesRead
 mod SeenOld
+mod OldView
 pub mod First

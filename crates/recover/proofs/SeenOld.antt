@@ -91,7 +91,7 @@ here_or_later held n number whole first later = by (n == number) (Decides-eqb n 
     by true decides = ap held (decides.0 refl) ∙ whole
     by false decides = later (later_number n number first (λ is. true≢false (sym (decides.1 is))))
 
-none_missing : (held : ℕ → Bool) (number count : ℕ) → first_missing held number count ≡ None → (n : ℕ) → number ≤ n → n < number + count → held n ≡ true
+pub none_missing : (held : ℕ → Bool) (number count : ℕ) → first_missing held number count ≡ None → (n : ℕ) → number ≤ n → n < number + count → held n ≡ true
 none_missing held number zero none n first less = absurd (omega arith)
 none_missing held number (suc count) none n first less = by (held number) refl (λ rest past. none_missing held (number + 1) count rest n past (omega arith)) none
   where
