@@ -9,6 +9,8 @@ mod LogsRead
 mod Page1Read
 mod Held
 mod SizesRead
+mod HeaderRead
 mod SeenOld
 mod OldView
+mod Judged
 pub mod First

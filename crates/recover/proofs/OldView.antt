@@ -20,7 +20,8 @@ use Rattle.recover.specs.Seeing.{SeenView, IsSeen, IsWholeSeen, one_in, two_in, 
 use Rattle.recover.specs.Looking.{AreRead, IsLegalLook, ArePlaces, IsPage1, TellsFirst, bytes_at, place_in, size_read, room_read, logs_read, pages_read, named_read, is_whole_by, IsMissing, IsSeenFault}
 use Rattle.recover.proofs.Page1.{le_of}
 use Rattle.recover.proofs.LogsRead.{some1, some2}
-use Rattle.recover.proofs.SeenOld.{page_size_is, reserved_is, write_is, read_is, counted, place_is, place_fits, missing_is, none_there, named_size_is, byte_is, none_missing}
+use Rattle.recover.proofs.HeaderRead.{page_size_is, reserved_is, write_is, read_is}
+use Rattle.recover.proofs.SeenOld.{counted, place_is, place_fits, missing_is, none_there, named_size_is, byte_is, none_missing}
 
 -- The view is made of these parts.
 pub record IsOldView (looked : Looked) (page1 : First) (seen : SeenView) : Type 0 where
@@ -97,7 +98,7 @@ module _ (looked : Looked) (page1 : First) (legal : IsLegalLook looked) (is_old 
 
     pub seen_is : (new_size : ℕ) (seen : SeenView) → IsOldView looked page1 seen → IsSeen new_size files seen
     seen_is new_size seen v =
-        let size_is = page_size_is files looked.one looked.two looked.main page1 read.logs legal.logs read.main is_page1.0 is_page1.1 told passes1 passes2 in
+        let size_is = page_size_is files looked.one looked.two page1 read.logs legal.logs is_page1.1 in
         let count_is : length seen.places ≡ length (map_found files) = v.count ∙ counted files looked.one looked.two looked.main page1 read.logs legal.logs read.main is_page1.0 is_page1.1 told passes1 passes2 in
         record {
           new = v.new ∙ sym is_page1.0;
@@ -112,13 +113,13 @@ module _ (looked : Looked) (page1 : First) (legal : IsLegalLook looked) (is_old 
                 v.page_size,
                 v.usable,
                 told.usable_bytes,
-                reserved_is files looked.one looked.two looked.main page1 read.logs legal.logs read.main is_page1.0 is_page1.1 told passes1 passes2,
+                reserved_is files looked.one looked.two page1 read.logs legal.logs is_page1.1,
               ));
           ours = λ old.
               v.ours
               ∙ rw (
-                write_is files looked.one looked.two looked.main page1 read.logs legal.logs read.main is_page1.0 is_page1.1 told passes1 passes2,
-                read_is files looked.one looked.two looked.main page1 read.logs legal.logs read.main is_page1.0 is_page1.1 told passes1 passes2,
+                write_is files looked.one looked.two page1 read.logs legal.logs is_page1.1,
+                read_is files looked.one looked.two page1 read.logs legal.logs is_page1.1,
               ) refl;
           named = λ old.
               v.named

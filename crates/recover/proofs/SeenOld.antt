@@ -36,6 +36,7 @@ use Rattle.recover.proofs.PlacesHold.{HoldsAt, HasPage, is_in_main, whole_is}
 use Rattle.recover.proofs.LogsRead.{place_holds, in_order, one_of, two_of, some1, some2, earlier, IsOfLog, ours_front}
 use Rattle.recover.proofs.Page1.{fields_alike, same_pages_in, le_of, le_false}
 use Rattle.recover.proofs.Page1Read.{same_first, roomy_size}
+use Rattle.recover.proofs.HeaderRead.{fields_same, page_size_is, pages_is}
 use Rattle.recover.proofs.Held.{is_among, among_then, then_among, in_main_is}
 use Rattle.recover.proofs.SizesRead.{size_after_is, named_is, none_given, none_over}
 use Rattle.recover.proofs.Missing.{same_held}
@@ -59,26 +60,6 @@ sized_log pages front size log passes some header is =
 some_of : (frames : List Frame) → frames ≢ [] → is_some_list frames ≡ true
 some_of [] some = absurd (some refl)
 some_of (frame ∷ rest) some = refl
-
-told_size : (bytes : List ℕ) (n : ℕ) (header : Header) → header_of bytes n ≡ header → page_size_in (fields_of bytes) ≡ header.page_size
-unfolding header_of
-told_size bytes n header is = ap (λ (h : Header). h.page_size) is
-
-told_reserved : (bytes : List ℕ) (n : ℕ) (header : Header) → header_of bytes n ≡ header → (fields_of bytes).reserved ≡ header.reserved
-unfolding header_of
-told_reserved bytes n header is = ap (λ (h : Header). h.reserved) is
-
-told_pages : (bytes : List ℕ) (n : ℕ) (header : Header) → header_of bytes n ≡ header → pages_in bytes n ≡ header.pages
-unfolding header_of
-told_pages bytes n header is = ap (λ (h : Header). h.pages) is
-
-told_write : (bytes : List ℕ) (n : ℕ) (header : Header) → header_of bytes n ≡ header → (fields_of bytes).write_version ≡ header.versions.0
-unfolding header_of
-told_write bytes n header is = ap (λ (h : Header). h.versions.0) is
-
-told_read : (bytes : List ℕ) (n : ℕ) (header : Header) → header_of bytes n ≡ header → (fields_of bytes).read_version ≡ header.versions.1
-unfolding header_of
-told_read bytes n header is = ap (λ (h : Header). h.versions.1) is
 
 -- where no page is missing each is there
 later_number : (n number : ℕ) → number ≤ n → (n ≡ number → ⊥) → number + 1 ≤ n
@@ -132,37 +113,25 @@ module _ (files : Files) (one two : Accepted) (main : ℕ) (first : First) (scan
   of2 : IsOfLog 2 files.log2 two
   of2 = two_of files one two scanned
 
-  same_fields : fields_of bytes ≡ fields_of (first_in files)
-  same_fields = fields_alike bytes (first_in files) (same_first files one two scanned legal)
+  abbrev same_fields : fields_of bytes ≡ fields_of (first_in files)
+  same_fields = fields_same files one two first scanned legal tells
 
-  is_told : header_of bytes (length files.main) ≡ first.header
-  is_told = tells.header.told
+  abbrev size_is : first.header.page_size ≡ size
+  size_is = page_size_is files one two first scanned legal tells
 
-  pub page_size_is : first.header.page_size ≡ size
-  page_size_is = sym (told_size bytes (length files.main) first.header is_told) ∙ ap (λ (fields : HeaderFields). page_size_in fields) same_fields
-
-  pub reserved_is : first.header.reserved ≡ (fields_of (first_in files)).reserved
-  reserved_is = sym (told_reserved bytes (length files.main) first.header is_told) ∙ ap (λ (fields : HeaderFields). fields.reserved) same_fields
-
-  pub write_is : first.header.versions.0 ≡ (fields_of (first_in files)).write_version
-  write_is = sym (told_write bytes (length files.main) first.header is_told) ∙ ap (λ (fields : HeaderFields). fields.write_version) same_fields
-
-  pub read_is : first.header.versions.1 ≡ (fields_of (first_in files)).read_version
-  read_is = sym (told_read bytes (length files.main) first.header is_told) ∙ ap (λ (fields : HeaderFields). fields.read_version) same_fields
-
-  pages_is : first.header.pages ≡ pages_in (first_in files) (length files.main)
-  pages_is = sym (told_pages bytes (length files.main) first.header is_told) ∙ same_pages_in bytes (first_in files) (length files.main) same_fields
+  abbrev given_is : first.header.pages ≡ pages_in (first_in files) (length files.main)
+  given_is = pages_is files one two first scanned legal tells
 
   big : 512 ≤ size
-  big = subst (λ (n : ℕ). 512 ≤ n) page_size_is (roomy_size first.header.page_size told.page_size)
+  big = subst (λ (n : ℕ). 512 ≤ n) size_is (roomy_size first.header.page_size told.page_size)
 
   fits1 : f1 ≢ [] → page_size_of_log one.front ≡ size
   fits1 some =
-      sized_log one.pages.items one.front first.header.page_size Log1 passes1 (some1 files one two scanned ∙ some_of f1 some) (header_in files.log1) (of1.front ∙ ours_front 1 files.log1 (of1.ours some)) ∙ page_size_is
+      sized_log one.pages.items one.front first.header.page_size Log1 passes1 (some1 files one two scanned ∙ some_of f1 some) (header_in files.log1) (of1.front ∙ ours_front 1 files.log1 (of1.ours some)) ∙ size_is
 
   fits2 : f2 ≢ [] → page_size_of_log two.front ≡ size
   fits2 some =
-      sized_log two.pages.items two.front first.header.page_size Log2 passes2 (some2 files one two scanned ∙ some_of f2 some) (header_in files.log2) (of2.front ∙ ours_front 2 files.log2 (of2.ours some)) ∙ page_size_is
+      sized_log two.pages.items two.front first.header.page_size Log2 passes2 (some2 files one two scanned ∙ some_of f2 some) (header_in files.log2) (of2.front ∙ ours_front 2 files.log2 (of2.ours some)) ∙ size_is
 
   page_here : (number : ℕ) → HoldsAt files (λ n. n ≡ size) (main_page size files.main number) (place_in one two number) (page_in size files (one_in files) (two_in files) number)
   page_here number = place_holds files one two scanned (λ n. n ≡ size) (main_page size files.main number) number fits1 fits2
@@ -177,7 +146,7 @@ module _ (files : Files) (one two : Accepted) (main : ℕ) (first : First) (scan
 
   pub counted : pages_read one two first.header.pages ≡ length (map_found files)
   counted =
-      ap (λ (n : ℕ). pages_read one two n) pages_is ∙ by (earlier files one two scanned) ∙ sym (in_order files one two scanned (λ (older newer : List Frame). size_after newer (size_after older given)) (λ frames. refl))
+      ap (λ (n : ℕ). pages_read one two n) given_is ∙ by (earlier files one two scanned) ∙ sym (in_order files one two scanned (λ (older newer : List Frame). size_after newer (size_after older given)) (λ frames. refl))
       ∙ sym (length_pages (λ number. page_in size files (one_in files) (two_in files) number) 1 (size_after (newer_in files (one_in files) (two_in files)) (size_after (older_in files (one_in files) (two_in files)) given)))
     where
       over1 : (below : ℕ) → size_over one.size below ≡ size_after f1 below
@@ -223,7 +192,7 @@ module _ (files : Files) (one two : Accepted) (main : ℕ) (first : First) (scan
   -- a page is held exactly where it is whole by the logs' page numbers and Main's length
   whole_held : (number : ℕ) → is_whole_by one two first.header.page_size main number ≡ is_held files number
   whole_held number =
-      ap (λ (n : ℕ). is_whole_by one two n main number) page_size_is
+      ap (λ (n : ℕ). is_whole_by one two n main number) size_is
       ∙ whole_is size main number (place_in one two number) (is_among (pages_held (one_in files) (two_in files)) number) (in_main_is one two number ∙ ap (λ (held : Bool). not held) (sym (held_is number)))
       ∙ ap (λ (n : ℕ). is_among (pages_held (one_in files) (two_in files)) number || nat_le (number * size) n) sized
 
@@ -260,9 +229,9 @@ module _ (files : Files) (one two : Accepted) (main : ℕ) (first : First) (scan
       not_whole =
           let none1 : one.pages.items ≡ [] = legal.one.sized.0 zeros.0 in
           let none2 : two.pages.items ≡ [] = legal.two.sized.0 zeros.1 in
-          let short : length files.main < size = none_given (first_in files) (length files.main) (omega (arith, big)) (sym pages_is ∙ zeros.2) in
+          let short : length files.main < size = none_given (first_in files) (length files.main) (omega (arith, big)) (sym given_is ∙ zeros.2) in
           let held : is_among (one.pages.items ++ two.pages.items) 1 ≡ false = rw (none1, none2) refl in
-          ap (λ (n : ℕ). is_whole_by one two n main 1) page_size_is
+          ap (λ (n : ℕ). is_whole_by one two n main 1) size_is
           ∙ whole_is size main 1 (place_in one two 1) (is_among (one.pages.items ++ two.pages.items) 1) (in_main_is one two 1)
           ∙ rw held (le_false (1 * size) main (omega (arith, short, sized, alone size)))
         where
@@ -271,9 +240,9 @@ module _ (files : Files) (one two : Accepted) (main : ℕ) (first : First) (scan
 
   pub named_size_is : (count : ℕ) → count ≡ length (map_found files) → named_read first count ≡ pages_in (first_in files) (max (length files.main) (length (map_found files) * first.header.page_size))
   named_size_is count is =
-      named_is (first_in files) first (length files.main) count (omega (arith, big)) (tells.counts ∙ counts_alike bytes (first_in files) same_fields) pages_is
+      named_is (first_in files) first (length files.main) count (omega (arith, big)) (tells.counts ∙ counts_alike bytes (first_in files) same_fields) given_is
       ∙ ap (λ (n : ℕ). pages_in (first_in files) (max (length files.main) (n * size))) is
-      ∙ ap (λ (n : ℕ). pages_in (first_in files) (max (length files.main) (length (map_found files) * n))) (sym page_size_is)
+      ∙ ap (λ (n : ℕ). pages_in (first_in files) (max (length files.main) (length (map_found files) * n))) (sym size_is)
     where
       counts_alike : (a b : List ℕ) → fields_of a ≡ fields_of b → size_counts a ≡ size_counts b
       counts_alike a b same = rw same refl

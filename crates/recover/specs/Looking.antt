@@ -223,8 +223,12 @@ IsSeenFault looked Memory = Unit {0}
 IsSeenFault looked (Missing page) = (files : Files) → AreRead files looked → missing_fault files ≡ Some (Missing page)
 IsSeenFault looked fault = ⊥
 
+-- with this fault no call on the disk has failed
+abbrev pub keeps_count : LookFault → Bool
+keeps_count Disk = false
+keeps_count fault = true
+
 -- the disk did its part
 abbrev pub is_disk_well : {T : Type 0} → Result T LookFault → Bool
 is_disk_well (Ok value) = true
-is_disk_well (Err Disk) = false
-is_disk_well (Err fault) = true
+is_disk_well (Err fault) = keeps_count fault
