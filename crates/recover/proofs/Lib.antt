@@ -13,4 +13,5 @@ mod HeaderRead
 mod SeenOld
 mod OldView
 mod Judged
+pub mod SeenLaws
 pub mod First
