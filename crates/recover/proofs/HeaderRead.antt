@@ -56,4 +56,3 @@ module _ (files : Files) (one two : Accepted) (first : First) (scanned : AreScan
 
   pub pages_is : first.header.pages ≡ pages_in (first_in files) (length files.main)
   pages_is = sym (told_pages bytes (length files.main) first.header is_told) ∙ same_pages_in bytes (first_in files) (length files.main) fields_same
-

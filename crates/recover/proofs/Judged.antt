@@ -1,22 +1,19 @@
 -- What was judged by what was read is the first fault of the files.
-use Rattle.std.proofs.Common.{◌≡◌, ℕ, ◌≤◌, ◌==◌, ◌&&◌, ◌||◌, not, Bool, true, false, if◌then◌else◌, List, [], ◌∷◌, ◌++◌, length, Option, Some, None, refl, sym, ◌∙◌, ap, subst}
+use Rattle.std.proofs.Common.{◌≡◌, ℕ, ◌==◌, ◌&&◌, ◌||◌, not, Bool, true, false, if◌then◌else◌, List, [], ◌∷◌, ◌++◌, length, Option, Some, None, refl, sym, ◌∙◌}
 use Rattle.std.specs.Prelude.{IfSome}
-use Rattle.disk_face.specs.declared.disk.File.{File}
 use Rattle.disk_face.specs.declared.disk.File.TheVariants.{Log1, Log2}
-use Rattle.disk_face.specs.Faults.{Rose, Counts}
+use Rattle.disk_face.specs.Faults.{Counts}
 use Rattle.disk_face.specs.Files.{Files}
 use Rattle.disk_face.specs.Steps.{History, reads}
-use Rattle.page_spec.specs.Header.{fields_of}
 use Rattle.db_header.specs.Header.{refusal}
 use Rattle.wal_frames.specs.Front.{front_of}
-use Rattle.wal_frames.specs.declared.header.Front.{Front}
 use Rattle.wal_frames.specs.declared.found.Accepted.{Accepted}
 use Rattle.recover.specs.declared.scan.First.{First}
 use Rattle.recover.specs.declared.scan.Looked.{Looked}
 use Rattle.recover.specs.declared.seen.LookFault.{LookFault}
 use Rattle.recover.specs.declared.seen.LookFault.TheVariants.{Header, WalMode, HotJournal, ForeignLog, Missing, Disk, Memory}
-use Rattle.recover.specs.Seeing.{SeenView, IsSeen, IsWholeSeen, HasSeen, first_in, RefusesLook, files_told, one_in, two_in, size_in, is_new_in, is_some_list, first_fault, fault_of, header_fault, wal_fault, foreign_fault, size_fault, room_fault, missing_fault, of_size}
-use Rattle.recover.specs.Looking.{AreRead, IsLegalLook, AreScanned, AreLegal, IsPage1, TellsFirst, bytes_at, place_in, wal_read, size_read, room_read, logs_read, judged, IsHeaderFault, IsJudged, IsSeenFault, keeps_count}
+use Rattle.recover.specs.Seeing.{SeenView, IsSeen, IsWholeSeen, HasSeen, first_in, RefusesLook, files_told, one_in, two_in, size_in, is_some_list, first_fault, fault_of, header_fault, wal_fault, foreign_fault, size_fault, room_fault, missing_fault}
+use Rattle.recover.specs.Looking.{AreRead, IsLegalLook, AreScanned, AreLegal, IsPage1, bytes_at, place_in, wal_read, size_read, room_read, judged, IsHeaderFault, IsJudged, IsSeenFault, keeps_count}
 use Rattle.recover.proofs.Page1.{refusal_alike}
 use Rattle.recover.proofs.Page1Read.{same_first}
 use Rattle.recover.proofs.LogsRead.{some1, some2}
@@ -89,15 +86,15 @@ header_is files one two (Some first) scanned legal (old, tells) =
 faults_are : (files : Files) (looked : Looked) (hot : Bool) → AreRead files looked → IsLegalLook looked
     → fault_of files hot
     ≡ first_fault (
-      (wal_read looked.page1 looked.one.front
-      ∷ (if hot then Some HotJournal else None)
-      ∷ foreign_fault looked.one.front Log1
-      ∷ foreign_fault looked.two.front Log2
-      ∷ size_read looked.page1 looked.one.front looked.one.pages.items Log1
-      ∷ size_read looked.page1 looked.two.front looked.two.pages.items Log2
-      ∷ room_read looked.page1 looked.one.front looked.two.front
-      ∷ [])
-      ++ missing_fault files ∷ []
+    (wal_read looked.page1 looked.one.front
+    ∷ (if hot then Some HotJournal else None)
+    ∷ foreign_fault looked.one.front Log1
+    ∷ foreign_fault looked.two.front Log2
+    ∷ size_read looked.page1 looked.one.front looked.one.pages.items Log1
+    ∷ size_read looked.page1 looked.two.front looked.two.pages.items Log2
+    ∷ room_read looked.page1 looked.one.front looked.two.front
+    ∷ [])
+    ++ missing_fault files ∷ []
     )
 unfolding fault_of
 faults_are files looked hot read legal =

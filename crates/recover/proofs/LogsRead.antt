@@ -1,18 +1,18 @@
 -- What was found of the logs, in the words of what is accepted of them.
-use Rattle.std.proofs.Common.{◌≡◌, ◌≢◌, ℕ, ◌+◌, ◌*◌, ◌≤◌, ◌||◌, not, ◌&&◌, ◌==◌, Bool, true, false, if◌then◌else◌, List, [], ◌∷◌, length, take, drop, Option, None, Some, refl, sym, ◌∙◌, ap, subst, arith}
-use Rattle.std.specs.List.{concat, list_any}
+use Rattle.std.proofs.Common.{◌≡◌, ◌≢◌, ℕ, Bool, true, false, if◌then◌else◌, List, [], ◌∷◌, length, take, drop, refl, sym, ◌∙◌, ap, subst, arith}
+use Rattle.std.specs.List.{concat}
 use Rattle.std.specs.Prelude.{nat_lt}
 use Rattle.disk_face.specs.declared.disk.File.{File}
 use Rattle.disk_face.specs.declared.disk.File.TheVariants.{Log1, Log2}
 use Rattle.disk_face.specs.Files.{Files, content}
-use Rattle.log_spec.specs.LogHeader.{log_fields, is_signed, foreign_at, IsOurs, header_size}
-use Rattle.log_spec.specs.Accept.{Frame, Accepted as IsAccepted, AreCommitted, AreValidFrames, AreThere, page_numbers, last_size}
+use Rattle.log_spec.specs.LogHeader.{log_fields, IsOurs, header_size}
+use Rattle.log_spec.specs.Accept.{Frame, AreCommitted, AreValidFrames, AreThere, page_numbers, last_size}
 use Rattle.log_spec.specs.Frames.{accepted_frames, place_behind}
 use Rattle.log_spec.proofs.AcceptLaws.{accepted_is_one}
 use Rattle.log_spec.proofs.AcceptedIs.{accepted_is}
-use Rattle.wal_frames.specs.Front.{front_of, header_in, signed_front}
+use Rattle.wal_frames.specs.Front.{front_of, header_in}
 use Rattle.wal_frames.specs.declared.header.Front.{Front}
-use Rattle.wal_frames.specs.declared.header.Front.TheVariants.{Nothing, Ours}
+use Rattle.wal_frames.specs.declared.header.Front.TheVariants.{Ours}
 use Rattle.wal_frames.specs.declared.found.Accepted.{Accepted}
 use Rattle.wal_frames.specs.Found.{FindsAccepted}
 use Rattle.crash_spec.specs.Marks.{IsLog}

@@ -1,22 +1,20 @@
 -- From what was read of a database that is there to what is seen of it.
 use Rattle.std.proofs.Common.{◌≡◌, ℕ, ◌+◌, ◌-◌, ◌≤◌, ◌<◌, ◌==◌, ◌&&◌, ◌||◌, not, Bool, true, false, if◌then◌else◌, List, [], ◌∷◌, length, Option, Some, None, refl, sym, ◌∙◌, ap, subst, arith}
-use Rattle.std.specs.Prelude.{nat_le, slice_index_or, IfSome}
+use Rattle.std.specs.Prelude.{nat_le, IfSome}
 use Rattle.disk_face.specs.declared.disk.File.TheVariants.{Log1, Log2}
 use Rattle.disk_face.specs.Files.{Files}
-use Rattle.page_spec.specs.Header.{fields_of, pages_in, is_page_size}
+use Rattle.page_spec.specs.Header.{is_page_size}
 use Rattle.log_spec.specs.LogHeader.{last_generation}
 use Rattle.db_header.specs.Header.{IsTold}
 use Rattle.wal_frames.specs.Front.{IsLegalFront}
 use Rattle.wal_frames.specs.declared.header.Front.{Front}
-use Rattle.wal_frames.specs.declared.found.Accepted.{Accepted}
-use Rattle.opening_spec.specs.Found.{OpeningView}
 use Rattle.recover.specs.declared.place.Place.{Place}
 use Rattle.recover.specs.declared.scan.First.{First}
 use Rattle.recover.specs.declared.scan.Looked.{Looked}
 use Rattle.recover.specs.declared.seen.LookFault.{LookFault}
 use Rattle.recover.specs.declared.seen.LookFault.TheVariants.{Header, WalMode, HotJournal, ForeignLog, Missing, Disk, Memory}
 use Rattle.recover.specs.Places.{IsPlaceOf, FitsPlace}
-use Rattle.recover.specs.Seeing.{SeenView, IsSeen, IsWholeSeen, one_in, two_in, map_found, is_new_in, is_some_list, first_fault, first_missing, foreign_fault, missing_fault, of_missing, last_written, newest_of, founds, higher_log}
+use Rattle.recover.specs.Seeing.{SeenView, IsSeen, IsWholeSeen, one_in, two_in, map_found, is_new_in, is_some_list, first_fault, first_missing, foreign_fault, missing_fault, of_missing, last_written, newest_of, higher_log}
 use Rattle.recover.specs.Looking.{AreRead, IsLegalLook, ArePlaces, IsPage1, TellsFirst, bytes_at, place_in, size_read, room_read, logs_read, pages_read, named_read, is_whole_by, IsMissing, IsSeenFault}
 use Rattle.recover.proofs.Page1.{le_of}
 use Rattle.recover.proofs.LogsRead.{some1, some2}

@@ -1,12 +1,11 @@
 -- What the first bytes of page 1 tell.
-use Rattle.std.proofs.Common.{◌≡◌, ◌≤◌, ◌<◌, ◌+◌, ◌&&◌, ℕ, Bool, List, length, take, true, false, refl, sym, ◌∙◌, ap, arith, get_or-take, Option}
+use Rattle.std.proofs.Common.{◌≡◌, ◌≤◌, ◌<◌, ◌&&◌, ℕ, Bool, List, length, take, true, false, refl, sym, ◌∙◌, ap, arith, get_or-take}
 use Rattle.std.specs.List.{starts_with}
 use Rattle.std.specs.Prelude.{nat_le, nat_eq}
 use Rattle.std.proofs.lemmas.Bool.Decides.{nat_tests}
 use Rattle.std.proofs.lemmas.List.{take-take, length-take}
 use Rattle.page_spec.specs.Header.{is_database, database_text, fields_of, pages_in}
 use Rattle.db_header.specs.Header.{refusal, tests_of}
-use Rattle.db_header.specs.declared.fault.HeaderFault.{HeaderFault}
 use Rattle.opening_spec.proofs.Laid.{header-take}
 
 pub le_of : (m n : ℕ) → nat_le m n ≡ true → m ≤ n

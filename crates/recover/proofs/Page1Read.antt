@@ -1,19 +1,19 @@
 -- Page 1 is read where it stands.
-use Rattle.std.proofs.Common.{◌≡◌, ◌≢◌, ℕ, ◌+◌, ◌-◌, ◌*◌, ◌≤◌, ◌<◌, Bool, true, false, if◌then◌else◌, List, [], length, take, drop, Option, Some, None, refl, sym, ◌∙◌, ap, subst, arith, get_or-take}
-use Rattle.std.specs.Prelude.{IfSome, slice_index, IsTrue, nat_le}
+use Rattle.std.proofs.Common.{◌≡◌, ◌≢◌, ℕ, ◌≤◌, true, false, List, [], length, take, drop, Option, Some, None, refl, sym, ◌∙◌, ap, subst, arith}
+use Rattle.std.specs.Prelude.{IfSome}
 use Rattle.std.proofs.lemmas.Bool.Decides.{nat_tests}
 use Rattle.std.proofs.lemmas.List.{take-take}
 use Rattle.disk_face.specs.declared.disk.File.TheVariants.{Main}
 use Rattle.disk_face.specs.Files.{Files, content}
 use Rattle.disk_face.specs.Steps.{History, reads}
 use Rattle.disk_face.specs.Told.{IsSize}
-use Rattle.page_spec.specs.Header.{is_page_size, fields_of}
+use Rattle.page_spec.specs.Header.{is_page_size}
 use Rattle.log_spec.specs.Frames.{accepted_frames}
 use Rattle.db_header.specs.Header.{refusal}
 use Rattle.db_header.specs.declared.fault.HeaderFault.{HeaderFault}
 use Rattle.wal_frames.specs.Front.{IsLegalFront, header_in}
 use Rattle.wal_frames.specs.declared.header.Front.{Front}
-use Rattle.wal_frames.specs.declared.header.Front.TheVariants.{Nothing, Foreign, Ours}
+use Rattle.wal_frames.specs.declared.header.Front.TheVariants.{Ours}
 use Rattle.wal_frames.specs.declared.found.Accepted.{Accepted}
 use Rattle.wal_frames.specs.Found.{IsLegal}
 use Rattle.recover.specs.declared.place.Place.{Place}
@@ -21,8 +21,8 @@ use Rattle.recover.specs.declared.place.Place.TheVariants.{InMain, InLog}
 use Rattle.recover.specs.declared.scan.First.{First}
 use Rattle.recover.specs.declared.seen.LookFault.{LookFault}
 use Rattle.recover.specs.declared.seen.LookFault.TheVariants.{Header, WalMode, HotJournal, ForeignLog, Missing, Disk, Memory}
-use Rattle.recover.specs.Seeing.{first_in, header_fault, is_new_in, of_header}
-use Rattle.recover.specs.Looking.{AreScanned, AreLegal, page_size_of_log, place_in, bytes_at, first_size, FitsFirst, IsPage1, TellsFirst, IsFirstFault, IsHeaderFault, is_new_read}
+use Rattle.recover.specs.Seeing.{first_in, header_fault, is_new_in}
+use Rattle.recover.specs.Looking.{AreScanned, AreLegal, page_size_of_log, place_in, bytes_at, FitsFirst, IsPage1, TellsFirst, IsFirstFault, IsHeaderFault, is_new_read}
 use Rattle.recover.proofs.PlacesHold.{HoldsAt}
 use Rattle.recover.proofs.LogsRead.{place_holds, ours_front, IsOfLog, new_is, one_of, two_of}
 use Rattle.recover.proofs.Page1.{refusal_alike}

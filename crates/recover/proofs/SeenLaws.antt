@@ -1,12 +1,11 @@
 -- What follows of what was seen.
-use Rattle.std.proofs.Common.{◌≡◌, ◌⊎◌, inl, inr, ℕ, ◌≤◌, ◌==◌, ◌%◌, ◌&&◌, Bool, true, false, if◌then◌else◌, List, [], ◌∷◌, length, drop, Option, Some, None, refl, sym, ◌∙◌, ap, subst}
+use Rattle.std.proofs.Common.{◌≡◌, ◌⊎◌, inl, inr, ℕ, ◌≤◌, ◌==◌, ◌%◌, ◌&&◌, Bool, true, false, if◌then◌else◌, List, [], ◌∷◌, length, drop, Option, Some, None, refl}
 use Rattle.std.specs.Prelude.{nat_le, is_none}
 use Rattle.disk_face.specs.Files.{Files}
 use Rattle.page_spec.specs.Header.{is_page_size}
 use Rattle.log_spec.specs.LogHeader.{LogFields, log_fields, is_generation, is_signed, foreign_at, first_failing, last_generation, own_version, header_size}
 use Rattle.log_spec.specs.Frames.{accepted_frames, up_to_commit, valid_frames}
 use Rattle.wal_frames.specs.Front.{front_of, header_in, IsOursFront, signed_front}
-use Rattle.wal_frames.specs.declared.header.Front.{Front}
 use Rattle.wal_frames.specs.declared.header.Front.TheVariants.{Nothing}
 use Rattle.opening_spec.specs.Found.{IsFirst}
 use Rattle.recover.specs.Headers.{generation_in, first_of}

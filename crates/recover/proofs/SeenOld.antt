@@ -1,41 +1,35 @@
 -- What was seen of a database that is there.
-use Rattle.std.proofs.Common.{◌≡◌, ◌≢◌, ℕ, zero, suc, ◌+◌, ◌-◌, ◌*◌, ◌≤◌, ◌<◌, ◌==◌, ◌&&◌, ◌||◌, not, max, Bool, true, false, if◌then◌else◌, List, [], ◌∷◌, ◌++◌, length, take, drop, Option, Some, None, refl, sym, ◌∙◌, ap, subst, arith, get_or-take}
-use Rattle.std.specs.List.{list_any}
-use Rattle.std.specs.Prelude.{Contains, nat_lt, nat_le, slice_index, slice_index_or, IsTrue}
+use Rattle.std.proofs.Common.{◌≡◌, ◌≢◌, ℕ, zero, suc, ◌+◌, ◌*◌, ◌≤◌, ◌<◌, ◌==◌, ◌||◌, not, max, Bool, true, false, if◌then◌else◌, List, [], ◌∷◌, ◌++◌, length, take, drop, Option, Some, None, refl, sym, ◌∙◌, ap, subst, arith, get_or-take}
+use Rattle.std.specs.Prelude.{nat_le, slice_index}
 use Rattle.std.proofs.lemmas.Bool.{true≢false}
 use Rattle.std.proofs.lemmas.Bool.Decides.{Decides-eqb}
 use Rattle.disk_face.specs.declared.disk.File.{File}
 use Rattle.disk_face.specs.declared.disk.File.TheVariants.{Log1, Log2}
 use Rattle.disk_face.specs.Files.{Files, content}
-use Rattle.page_spec.specs.Header.{HeaderFields, fields_of, page_size_in, pages_in, is_page_size}
-use Rattle.page_spec.specs.PageMap.{PageMap, page_at}
-use Rattle.log_spec.specs.Accept.{Frame, page_numbers, last_size}
+use Rattle.page_spec.specs.Header.{fields_of, pages_in}
+use Rattle.page_spec.specs.PageMap.{page_at}
+use Rattle.log_spec.specs.Accept.{Frame}
 use Rattle.log_spec.specs.Frames.{accepted_frames}
-use Rattle.db_header.specs.Header.{header_of, refusal, IsTold}
-use Rattle.db_header.specs.declared.header.Header.{Header}
+use Rattle.db_header.specs.Header.{IsTold}
 use Rattle.wal_frames.specs.Front.{header_in}
 use Rattle.wal_frames.specs.declared.header.LogHeader.{LogHeader}
 use Rattle.wal_frames.specs.declared.header.Front.{Front}
-use Rattle.wal_frames.specs.declared.header.Front.TheVariants.{Nothing, Foreign, Ours}
+use Rattle.wal_frames.specs.declared.header.Front.TheVariants.{Ours}
 use Rattle.wal_frames.specs.declared.found.Accepted.{Accepted}
-use Rattle.crash_spec.specs.Marks.{IsLog}
-use Rattle.crash_spec.specs.Recovered.{page_after_frames, main_page, overlaid, size_after, first_bytes, pages_from}
-use Rattle.crash_spec.proofs.Switching.{empty_either}
-use Rattle.opening_spec.specs.Found.{OpeningView, older_in, newer_in, map_in, page_in, pages_held}
+use Rattle.crash_spec.specs.Recovered.{main_page, size_after, pages_from}
+use Rattle.opening_spec.specs.Found.{OpeningView, older_in, newer_in, page_in, pages_held}
 use Rattle.opening_spec.proofs.Laid.{page_1_is}
 use Rattle.recover.specs.declared.place.Place.{Place}
 use Rattle.recover.specs.declared.place.Place.TheVariants.{InMain, InLog}
 use Rattle.recover.specs.declared.scan.First.{First}
-use Rattle.recover.specs.declared.seen.LookFault.{LookFault}
 use Rattle.recover.specs.declared.seen.LookFault.TheVariants.{Missing, ForeignLog}
-use Rattle.recover.specs.Places.{ArePlacesOf, IsPlaceOf, FitPlaces, FitsPlace}
-use Rattle.recover.specs.Headers.{generation_in}
-use Rattle.recover.specs.Seeing.{SeenView, IsSeen, one_in, two_in, first_in, size_in, map_found, is_new_in, is_ours_in, has_frames, is_some_list, is_held, first_missing, missing_fault, of_missing, of_size}
-use Rattle.recover.specs.Looking.{AreScanned, AreLegal, TellsFirst, ArePlaces, bytes_at, place_in, page_size_of_log, size_read, pages_read, size_over, named_read, size_counts, is_whole_at, is_whole_by}
-use Rattle.recover.proofs.PlacesHold.{HoldsAt, HasPage, is_in_main, whole_is}
+use Rattle.recover.specs.Places.{IsPlaceOf, FitsPlace}
+use Rattle.recover.specs.Seeing.{one_in, two_in, first_in, size_in, map_found, is_new_in, is_some_list, is_held, first_missing, missing_fault, of_missing, of_size}
+use Rattle.recover.specs.Looking.{AreScanned, AreLegal, TellsFirst, bytes_at, place_in, page_size_of_log, size_read, pages_read, size_over, named_read, size_counts, is_whole_at, is_whole_by}
+use Rattle.recover.proofs.PlacesHold.{HoldsAt, is_in_main, whole_is}
 use Rattle.recover.proofs.LogsRead.{place_holds, in_order, one_of, two_of, some1, some2, earlier, IsOfLog, ours_front}
-use Rattle.recover.proofs.Page1.{fields_alike, same_pages_in, le_of, le_false}
-use Rattle.recover.proofs.Page1Read.{same_first, roomy_size}
+use Rattle.recover.proofs.Page1.{le_of, le_false}
+use Rattle.recover.proofs.Page1Read.{roomy_size}
 use Rattle.recover.proofs.HeaderRead.{fields_same, page_size_is, pages_is}
 use Rattle.recover.proofs.Held.{is_among, among_then, then_among, in_main_is}
 use Rattle.recover.proofs.SizesRead.{size_after_is, named_is, none_given, none_over}
@@ -174,7 +168,7 @@ module _ (files : Files) (one two : Accepted) (main : ℕ) (first : First) (scan
         is_log,
         among_then (pages_held (one_in files) (two_in files)) number (negated (is_among (pages_held (one_in files) (two_in files)) number) is),
         subst (λ (n : ℕ). take n (drop at (content files file)) ≡ page_in n files (one_in files) (two_in files) number) (sym same)
-        (subst (λ (n : ℕ). take n (drop at (content files file)) ≡ page_in size files (one_in files) (two_in files) number) has.fits has.is),
+            (subst (λ (n : ℕ). take n (drop at (content files file)) ≡ page_in size files (one_in files) (two_in files) number) has.fits has.is),
       )
         where
           negated : (a : Bool) → false ≡ not a → a ≡ true

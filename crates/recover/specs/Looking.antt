@@ -1,7 +1,6 @@
 -- What is read of a database's files before they are judged, where a page stands by the page numbers of both logs, and what bars an opening
 -- by what was read.
-use Rattle.std.specs.List.{list_any}
-use Rattle.std.specs.Prelude.{◌≡◌, ℕ, ◌+◌, ◌*◌, ◌-◌, ◌<◌, ◌≤◌, ◌==◌, max, nat_lt, nat_le, Bool, true, false, ◌&&◌, ◌||◌, not, if◌then◌else◌, List, [], ◌∷◌, ◌++◌, length, take, drop, slice_index, slice_index_or, Option, Some, None, IfSome, Result, Ok, Err}
+use Rattle.std.specs.Prelude.{◌≡◌, ℕ, ◌+◌, ◌*◌, ◌-◌, ◌<◌, ◌≤◌, ◌==◌, max, nat_lt, nat_le, Bool, true, false, ◌&&◌, ◌||◌, not, if◌then◌else◌, List, [], ◌∷◌, length, take, drop, slice_index, slice_index_or, Option, Some, None, IfSome, Result, Ok, Err}
 use Rattle.disk_face.specs.declared.disk.File.{File}
 use Rattle.disk_face.specs.declared.disk.File.TheVariants.{Main, Log1, Log2}
 use Rattle.disk_face.specs.Files.{Files, content}
@@ -21,7 +20,7 @@ use Rattle.recover.specs.declared.place.Place.TheVariants.{InMain, InLog}
 use Rattle.recover.specs.declared.scan.First.{First}
 use Rattle.recover.specs.declared.scan.Looked.{Looked}
 use Rattle.recover.specs.declared.seen.LookFault.{LookFault}
-use Rattle.recover.specs.declared.seen.LookFault.TheVariants.{Header, HotJournal, ForeignLog, WalMode, Missing, Disk, Memory}
+use Rattle.recover.specs.declared.seen.LookFault.TheVariants.{Header, HotJournal, ForeignLog, Missing, Disk, Memory}
 
 -- the page size of a log, 0 where it has no header of ours
 abbrev pub page_size_of_log : Front → ℕ

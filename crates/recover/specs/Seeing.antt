@@ -1,6 +1,6 @@
 -- What an opening sees of a database's files, and why it refuses them.
 use Rattle.std.specs.List.{list_any}
-use Rattle.std.specs.Prelude.{◌≡◌, ◌⊎◌, ◌↔◌, ℕ, suc, ◌+◌, ◌-◌, ◌*◌, ◌%◌, ◌<◌, ◌≤◌, ◌==◌, max, nat_lt, nat_le, Bool, true, false, ◌&&◌, ◌||◌, not, if◌then◌else◌, List, [], ◌∷◌, ◌++◌, length, take, slice_index, Contains, Option, Some, None, IsTrue, IfSome, zero}
+use Rattle.std.specs.Prelude.{◌≡◌, ℕ, suc, ◌+◌, ◌-◌, ◌*◌, ◌%◌, ◌<◌, ◌≤◌, ◌==◌, max, nat_lt, nat_le, Bool, true, false, ◌&&◌, ◌||◌, not, if◌then◌else◌, List, [], ◌∷◌, length, slice_index, Option, Some, None, IsTrue, IfSome, zero}
 use Rattle.disk_face.specs.declared.disk.File.{File}
 use Rattle.disk_face.specs.declared.disk.File.TheVariants.{Log1, Log2}
 use Rattle.disk_face.specs.Faults.{Rose}
@@ -15,7 +15,7 @@ use Rattle.db_header.specs.declared.fault.HeaderFault.{HeaderFault}
 use Rattle.wal_frames.specs.declared.header.Front.{Front}
 use Rattle.wal_frames.specs.declared.header.Front.TheVariants.{Nothing, Foreign, Ours}
 use Rattle.wal_frames.specs.Front.{front_of, IsLegalFront}
-use Rattle.crash_spec.specs.Recovered.{first_bytes, recovered}
+use Rattle.crash_spec.specs.Recovered.{first_bytes}
 use Rattle.opening_spec.specs.Found.{FoundLog, OpeningView, older_in, newer_in, map_in, pages_held}
 use Rattle.opening_spec.specs.Begins.{found_in}
 use Rattle.recover.specs.Headers.{generation_in, next_even}

@@ -15,6 +15,7 @@ use wal_frames::{Accepted, Front};
 
 /// How many bytes the header of a log has, and how many stand before the page in a frame.
 const LOG_HEADER_SIZE: u64 = 32;
+
 const HEAD_SIZE: u64 = 24;
 
 /// The generation of a log's header, 0 where it has none of ours.
@@ -84,9 +85,11 @@ pub(crate) fn first_place(one: &Accepted, two: &Accepted) -> Place
     ensures { result ≡ place_in one.now two.now 1 }
 {
     if generation_of(&one.front) < generation_of(&two.front) {
-        place_over(File::Log2, two, 1, place_over(File::Log1, one, 1, Place::InMain))
+        let below = place_over(File::Log1, one, 1, Place::InMain);
+        place_over(File::Log2, two, 1, below)
     } else {
-        place_over(File::Log1, one, 1, place_over(File::Log2, two, 1, Place::InMain))
+        let below = place_over(File::Log2, two, 1, Place::InMain);
+        place_over(File::Log1, one, 1, below)
     }
 }
 
@@ -202,8 +205,14 @@ fn looked_at(count: u32, size: u32, main: u64, frames: u64) -> u32
     ensures within { result ≤ count }
     ensures some { 0 < count → 0 < result }
 {
-    let most = (main / u64::from(size)).saturating_add(frames).saturating_add(1);
-    if most < u64::from(count) { most as u32 } else { count }
+    let most = (main / u64::from(size))
+        .saturating_add(frames)
+        .saturating_add(1);
+    if most < u64::from(count) {
+        most as u32
+    } else {
+        count
+    }
 }
 
 /// Where the pages of the recovered map stand, of which there are `count`; or the first of them that isn't whole.

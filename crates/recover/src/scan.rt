@@ -16,8 +16,8 @@ ghost use Rattle.recover.specs.Looking.{TellsFirst, AreRead, IsLegalLook, IsOuts
 use crate::place::Place;
 use crate::places::first_place;
 use crate::seen::LookFault;
-use db_header::{Header, HeaderFault, read_header};
 use be_fields::get_u32;
+use db_header::{Header, HeaderFault, read_header};
 use disk_face::{Disk, Failed, File};
 use std::alloc::Global;
 use wal_frames::{Accepted, ScanFault, accepted};

@@ -1,4 +1,4 @@
-use Rattle.std.proofs.Common.{◌+◌, ◌-◌, length, ◌≡◌, ◌≤◌, ◌∙◌, sym, ap, arith, subst, ℕ, Some, None, refl}
+use Rattle.std.proofs.Common.{◌≡◌, ◌∙◌, sym, arith, subst, ℕ, None}
 use Rattle.recover.specs.Looking.{is_whole_by}
 use Rattle.recover.specs.Seeing.{first_missing}
 use Rattle.recover.proofs.Missing.{found, missing_more}

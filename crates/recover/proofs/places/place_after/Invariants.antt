@@ -1,4 +1,4 @@
-use Rattle.std.proofs.Common.{◌≡◌, ◌-◌, ◌≤◌, length, drop}
+use Rattle.std.proofs.Common.{◌≡◌, drop}
 use Rattle.recover.specs.Looking.{place_after}
 use Rattle.recover.proofs.places.place_after.Given as goal
 

@@ -1,6 +1,6 @@
-use Rattle.std.proofs.Common.{◌≡◌, List, ℕ, Some, length, arith, ◌∙◌}
+use Rattle.std.proofs.Common.{◌≡◌, List, ℕ, Some, arith}
 use Rattle.db_header.specs.Header.{refusal}
-use Rattle.recover.specs.Looking.{TellsFirst, first_size_at}
+use Rattle.recover.specs.Looking.{TellsFirst}
 use Rattle.recover.proofs.FirstRead.{told_first}
 use Rattle.recover.proofs.scan.tell_place.Goals as goal
 

@@ -1,8 +1,8 @@
-use Rattle.std.proofs.Common.{◌≡◌, ◌≤◌, ◌-◌, ℕ, Some, None, false, refl, sym, ◌∙◌, ap, arith, subst, length}
+use Rattle.std.proofs.Common.{◌-◌, ℕ, None, false, refl, sym, ◌∙◌, ap, arith}
 use Rattle.recover.specs.Seeing.{SeenView, first_missing}
 use Rattle.recover.specs.Looking.{is_whole_by, named_read}
 use Rattle.recover.proofs.OldView.{IsOldView, whole, seen_is, missing_of, none_there_of, fault_is}
-use Rattle.recover.proofs.look.see_old.Goals as goal
+use Rattle.recover.proofs.inspect.see_old.Goals as goal
 
 pub returns-then-count-eq0-clause-refused : goal.returns-then-count-eq0-clause-refused
 returns-then-count-eq0-clause-refused c files read =

@@ -1,10 +1,9 @@
-use Rattle.std.proofs.Common.{◌≡◌, true, Bool, Option, Some, None, subst, sym}
+use Rattle.std.proofs.Common.{◌≡◌, Bool, Option, None, subst}
 use Rattle.std.specs.Prelude.{IfSome}
-use Rattle.recover.specs.declared.seen.LookFault.{LookFault}
 use Rattle.disk_face.proofs.Calls.{counts_twice}
 use Rattle.recover.specs.Looking.{judged, IsJudged}
 use Rattle.recover.proofs.Judged.{refused_header, refused_judge, refused_see, has_seen}
-use Rattle.recover.proofs.look.look.Goals as goal
+use Rattle.recover.proofs.inspect.look.Goals as goal
 
 pub returns-in-Ok-see-clause-seen : goal.returns-in-Ok-see-clause-seen
 returns-in-Ok-see-clause-seen g c =
