@@ -1,10 +1,9 @@
 // A look at a database's files, which only reads: it is told what stands there, or why it isn't opened.
-ghost use Rattle.std.specs.Prelude.{◌≡◌, ◌≤◌, ◌==◌, ◌&&◌, ◌||◌, ℕ, true, Some, None, IfOk, IfErr, IsTrue};
+ghost use Rattle.std.specs.Prelude.{◌≡◌, ◌==◌, ◌&&◌, ◌||◌, ℕ, true, Some, None, IfOk, IfErr, IsTrue};
 ghost use Rattle.disk_face.specs.Faults.{Counts};
 ghost use Rattle.disk_face.specs.Files.{Files};
 ghost use Rattle.disk_face.specs.Stays.{OnlyReads};
 ghost use Rattle.page_spec.specs.Header.{is_page_size};
-ghost use Rattle.db_header.specs.Header.{IsTold};
 ghost use Rattle.recover.specs.Seeing.{RefusesLook, HasSeen, IsSeen, IsWholeSeen, files_told, missing_fault, is_some_list};
 ghost use Rattle.recover.specs.Looking.{AreRead, IsLegalLook, IsSeenFault, is_disk_well, logs_read, size_over, pages_read, named_read};
 

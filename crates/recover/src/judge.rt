@@ -1,10 +1,9 @@
 // Why files are refused before their pages are looked for. Of causes that stand together the first is told, so the journal is asked
 // only where nothing before it bars the opening.
-ghost use Rattle.std.specs.Prelude.{◌≡◌, ◌<◌, ◌^◌, true, Some, None, IfErr, IfSome, OnOk, is_ok};
+ghost use Rattle.std.specs.Prelude.{◌≡◌, ◌<◌, ◌^◌, true, Some, None, IfErr, IfSome, OnOk};
 ghost use Rattle.disk_face.specs.Faults.{Counts};
 ghost use Rattle.disk_face.specs.Stays.{OnlyReads};
-ghost use Rattle.disk_face.specs.declared.disk.File.{File as Files};
-ghost use Rattle.recover.specs.Seeing.{of_legacy, of_size, foreign_fault, higher_log, last_written};
+ghost use Rattle.recover.specs.Seeing.{of_legacy, of_size, foreign_fault, last_written};
 ghost use Rattle.recover.specs.Looking.{wal_read, size_read, founds_read, room_read, logs_read, IsJudged, judged, is_disk_well};
 
 use crate::places::generation_of;

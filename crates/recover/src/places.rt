@@ -1,6 +1,5 @@
 // Where the pages of the recovered map stand: found from the page numbers of both logs, each of which is walked once.
-ghost use Rattle.std.specs.Prelude.{◌≡◌, ◌+◌, ◌≤◌, ◌<◌, ℕ, true, length, slice_index_or, IfOk, IfErr, IfSome, None, IsTrue, is_some};
-ghost use Rattle.disk_face.specs.declared.disk.File.{File as Files};
+ghost use Rattle.std.specs.Prelude.{◌≡◌, ◌+◌, ◌≤◌, ◌<◌, ℕ, true, length, slice_index_or, IfOk, IfErr, None};
 ghost use Rattle.page_spec.specs.Header.{is_page_size};
 ghost use Rattle.recover.specs.Headers.{generation_in};
 ghost use Rattle.recover.specs.Seeing.{first_missing};

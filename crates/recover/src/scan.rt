@@ -1,14 +1,12 @@
 // What is read of a database's files, before they are judged: both logs, how long Main is, and the first bytes of page 1.
 //
 // Page 1 is read where its last frame stands, and from Main only where no log has one.
-ghost use Rattle.std.specs.Prelude.{◌≡◌, ◌⊎◌, ◌+◌, ◌≤◌, true, length, take, IfOk, IfErr, IfSome, IfNone, IsTrue, IsOk, is_ok, OnOk, slice_index};
-ghost use Rattle.disk_face.specs.declared.disk.File.{File as Files};
+ghost use Rattle.std.specs.Prelude.{◌≡◌, ◌⊎◌, ◌≤◌, true, length, IfOk, IfErr, IfSome, is_ok, OnOk, slice_index};
 ghost use Rattle.disk_face.specs.Faults.{Counts};
 ghost use Rattle.disk_face.specs.Files.{content};
 ghost use Rattle.disk_face.specs.Stays.{OnlyReads};
 ghost use Rattle.disk_face.specs.Steps.{reads};
 ghost use Rattle.disk_face.specs.Told.{IsSize, IsInside, IsRead};
-ghost use Rattle.page_spec.specs.Header.{is_page_size};
 ghost use Rattle.db_header.specs.Header.{refusal, IsTold};
 ghost use Rattle.wal_frames.specs.Found.{FindsAccepted, IsLegal, log_file};
 ghost use Rattle.recover.specs.Looking.{TellsFirst, AreRead, IsLegalLook, IsOutside, IsHeaderFault, is_disk_well, size_counts, bytes_at, first_size_at, file_of, start_of, FitsFirst, IsFirstFault, AreLegal, AreScanned, IsPage1, place_in, is_new_read};
