@@ -9,6 +9,7 @@ mod LogsRead
 mod Page1Read
 mod Held
 mod SizesRead
+mod Enough
 mod HeaderRead
 mod SeenOld
 mod OldView

@@ -1,5 +1,7 @@
 -- The first page that isn't whole.
-use Rattle.std.proofs.Common.{◌≡◌, ◌≤◌, ◌<◌, ◌+◌, ◌-◌, ℕ, zero, suc, Bool, true, false, if◌then◌else◌, List, length, Option, Some, refl, ◌∙◌, ap, arith}
+use Rattle.std.proofs.Common.{◌≡◌, ◌≤◌, ◌<◌, ◌==◌, ◌+◌, ◌-◌, ℕ, zero, suc, Bool, true, false, if◌then◌else◌, List, length, Option, Some, None, refl, sym, ◌∙◌, ap, arith}
+use Rattle.std.proofs.lemmas.Bool.{true≢false}
+use Rattle.std.proofs.lemmas.Bool.Decides.{Decides-eqb}
 use Rattle.std.specs.Prelude.{slice_index_or}
 use Rattle.wal_frames.specs.declared.found.Accepted.{Accepted}
 use Rattle.recover.specs.declared.place.Place.{Place}
@@ -47,3 +49,23 @@ pub found : (one two : Accepted) (laid other : List Place) (size main some : ℕ
 found one two laid other size main some result are same long is =
     is ∙ ap (λ (places : List Place). first_missing (is_whole_in places size main) 1 (length places)) same
     ∙ missing_by one two laid size main are ∙ ap (λ (n : ℕ). first_missing (is_whole_by one two size main) 1 n) long
+
+-- where no page is missing each is there
+later_number : (n number : ℕ) → number ≤ n → (n ≡ number → ⊥) → number + 1 ≤ n
+later_number n number first apart = omega arith
+
+here_or_later : (held : ℕ → Bool) (n number : ℕ) → held number ≡ true → number ≤ n → (number + 1 ≤ n → held n ≡ true) → held n ≡ true
+here_or_later held n number whole first later = by (n == number) (Decides-eqb n number)
+  where
+    by : (same : Bool) → (same ≡ true → n ≡ number) × (n ≡ number → same ≡ true) → held n ≡ true
+    by true decides = ap held (decides.0 refl) ∙ whole
+    by false decides = later (later_number n number first (λ is. true≢false (sym (decides.1 is))))
+
+pub none_missing : (held : ℕ → Bool) (number count : ℕ) → first_missing held number count ≡ None → (n : ℕ) → number ≤ n → n < number + count → held n ≡ true
+none_missing held number zero none n first less = absurd (omega arith)
+none_missing held number (suc count) none n first less = by (held number) refl (λ rest past. none_missing held (number + 1) count rest n past (omega arith)) none
+  where
+    by : (whole : Bool) → held number ≡ whole → (first_missing held (number + 1) count ≡ None → number + 1 ≤ n → held n ≡ true) → (if whole then first_missing held (number + 1) count else Some number) ≡ None
+        → held n ≡ true
+    by true whole later none = here_or_later held n number whole first (λ past. later none past)
+    by false whole later none = cc

@@ -19,7 +19,8 @@ use Rattle.recover.specs.Looking.{AreRead, IsLegalLook, ArePlaces, IsPage1, Tell
 use Rattle.recover.proofs.Page1.{le_of}
 use Rattle.recover.proofs.LogsRead.{some1, some2}
 use Rattle.recover.proofs.HeaderRead.{page_size_is, reserved_is, write_is, read_is}
-use Rattle.recover.proofs.SeenOld.{counted, place_is, place_fits, missing_is, none_there, named_size_is, byte_is, none_missing}
+use Rattle.recover.proofs.Missing.{none_missing}
+use Rattle.recover.proofs.SeenOld.{counted, place_is, place_fits, missing_is, none_there, named_size_is, byte_is}
 
 -- The view is made of these parts.
 pub record IsOldView (looked : Looked) (page1 : First) (seen : SeenView) : Type 0 where

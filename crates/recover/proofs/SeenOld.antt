@@ -55,26 +55,6 @@ some_of : (frames : List Frame) → frames ≢ [] → is_some_list frames ≡ tr
 some_of [] some = absurd (some refl)
 some_of (frame ∷ rest) some = refl
 
--- where no page is missing each is there
-later_number : (n number : ℕ) → number ≤ n → (n ≡ number → ⊥) → number + 1 ≤ n
-later_number n number first apart = omega arith
-
-here_or_later : (held : ℕ → Bool) (n number : ℕ) → held number ≡ true → number ≤ n → (number + 1 ≤ n → held n ≡ true) → held n ≡ true
-here_or_later held n number whole first later = by (n == number) (Decides-eqb n number)
-  where
-    by : (same : Bool) → (same ≡ true → n ≡ number) × (n ≡ number → same ≡ true) → held n ≡ true
-    by true decides = ap held (decides.0 refl) ∙ whole
-    by false decides = later (later_number n number first (λ is. true≢false (sym (decides.1 is))))
-
-pub none_missing : (held : ℕ → Bool) (number count : ℕ) → first_missing held number count ≡ None → (n : ℕ) → number ≤ n → n < number + count → held n ≡ true
-none_missing held number zero none n first less = absurd (omega arith)
-none_missing held number (suc count) none n first less = by (held number) refl (λ rest past. none_missing held (number + 1) count rest n past (omega arith)) none
-  where
-    by : (whole : Bool) → held number ≡ whole → (first_missing held (number + 1) count ≡ None → number + 1 ≤ n → held n ≡ true) → (if whole then first_missing held (number + 1) count else Some number) ≡ None
-        → held n ≡ true
-    by true whole later none = here_or_later held n number whole first (λ past. later none past)
-    by false whole later none = cc
-
 page_one : (page : ℕ → List ℕ) (count : ℕ) → 1 ≤ count → page_at (pages_from page 1 count) 1 ≡ page 1
 page_one page zero some = absurd (omega arith)
 page_one page (suc count) some = refl
