@@ -9,13 +9,13 @@ use Rattle.disk_face.specs.Steps.{History, reads}
 use Rattle.disk_face.specs.Told.{IsSize, IsRead}
 use Rattle.recover.specs.declared.place.Place.{Place}
 use Rattle.recover.specs.declared.place.Place.TheVariants.{InMain, InLog}
-use Rattle.recover.specs.Looking.{bytes_at, first_size, first_size_at, file_of, start_of}
+use Rattle.recover.specs.Looking.{bytes_at, first_size, first_size_at, file_of, start_at}
 
 less_of : (m n : ℕ) → nat_lt m n ≡ true → m < n
 less_of m n is = grind (arith, nat_tests)
 
 read_is : (files : Files) (place : Place) (main : ℕ) (bytes : List ℕ) → main ≡ length files.main → length bytes ≡ first_size_at main place
-    → bytes ≡ take (length bytes) (drop (start_of place) (content files (file_of place))) → bytes ≡ bytes_at files place
+    → bytes ≡ take (length bytes) (drop (start_at place) (content files (file_of place))) → bytes ≡ bytes_at files place
 read_is files InMain main bytes sized long is = is ∙ ap (λ (n : ℕ). take n files.main) long ∙ by (nat_lt main first_size) refl
   where
     by : (short : Bool) → nat_lt main first_size ≡ short → take (if short then main else first_size) files.main ≡ take first_size files.main
@@ -25,6 +25,6 @@ read_is files (InLog file at) main bytes sized long is = is ∙ ap (λ (n : ℕ)
 
 -- what holds of the bytes that were read holds of those that stand there
 pub told_first : (P : List ℕ → Type 0) (told : Option History) (place : Place) (main : ℕ) (bytes : List ℕ) → IsSize told Main main → length bytes ≡ first_size_at main place
-    → IsRead told (file_of place) (start_of place) bytes → P bytes → IfSome told (λ told. P (bytes_at (reads told) place))
+    → IsRead told (file_of place) (start_at place) bytes → P bytes → IfSome told (λ told. P (bytes_at (reads told) place))
 told_first P None place main bytes sized long is h = tt
 told_first P (Some told) place main bytes sized long is h = subst P (read_is (reads told) place main bytes sized long is) h

@@ -15,7 +15,7 @@ use Rattle.recover.specs.declared.seen.LookFault.{LookFault}
 use Rattle.recover.specs.declared.seen.LookFault.TheVariants.{Header, WalMode, HotJournal, ForeignLog, Missing, Disk, Memory}
 use Rattle.recover.specs.Places.{IsPlaceOf, FitsPlace}
 use Rattle.recover.specs.Seeing.{SeenView, IsSeen, IsWholeSeen, one_in, two_in, map_found, is_new_in, is_some_list, first_fault, first_missing, foreign_fault, missing_fault, of_missing, last_written, newest_of, higher_log}
-use Rattle.recover.specs.Looking.{AreRead, IsLegalLook, ArePlaces, IsPage1, TellsFirst, bytes_at, place_in, size_read, room_read, logs_read, pages_read, named_read, is_whole_by, IsMissing, IsSeenFault}
+use Rattle.recover.specs.Looking.{AreRead, IsLegalLook, ArePlaces, IsPage1, TellsFirst, bytes_at, place_in, size_read, room_read, logs_read, pages_told, named_read, is_whole_by, IsMissing, IsSeenFault}
 use Rattle.recover.proofs.Page1.{le_of}
 use Rattle.recover.proofs.LogsRead.{some1, some2}
 use Rattle.recover.proofs.HeaderRead.{page_size_is, reserved_is, write_is, read_is}
@@ -28,13 +28,13 @@ pub record IsOldView (looked : Looked) (page1 : First) (seen : SeenView) : Type 
   pub page_size : seen.page_size ≡ page1.header.page_size
   pub usable : seen.usable ≡ page1.header.page_size - page1.header.reserved
   pub ours : seen.is_ours ≡ (page1.header.versions.0 == 3 && page1.header.versions.1 == 3)
-  pub named : seen.named ≡ named_read page1 (pages_read looked.one looked.two page1.header.pages)
+  pub named : seen.named ≡ named_read page1 (pages_told looked.one looked.two page1.header.pages)
   pub byte : seen.byte ≡ page1.byte
   pub one : seen.one ≡ looked.one.front
   pub two : seen.two ≡ looked.two.front
   pub some : seen.some_frames ≡ (is_some_list looked.one.pages.items || is_some_list looked.two.pages.items)
   pub places : ArePlaces looked.one looked.two seen.places
-  pub count : length seen.places ≡ pages_read looked.one looked.two page1.header.pages
+  pub count : length seen.places ≡ pages_told looked.one looked.two page1.header.pages
   pub few : length seen.places < 4294967295
   pub some_page : 1 ≤ length seen.places
   pub none_missing : first_missing (is_whole_by looked.one looked.two page1.header.page_size looked.main) 1 (length seen.places) ≡ None
@@ -86,10 +86,10 @@ module _ (looked : Looked) (page1 : First) (legal : IsLegalLook looked) (is_old 
     is_page1 : (is_new_in files ≡ false) × TellsFirst (bytes_at files (place_in looked.one looked.two 1)) (length files.main) page1
     is_page1 = subst (λ (first : Option First). IsPage1 files (place_in looked.one looked.two 1) first) is_old read.page1
 
-    pub none_there_of : pages_read looked.one looked.two page1.header.pages ≡ 0 → missing_fault files ≡ Some (Missing 1)
+    pub none_there_of : pages_told looked.one looked.two page1.header.pages ≡ 0 → missing_fault files ≡ Some (Missing 1)
     none_there_of = none_there files looked.one looked.two looked.main page1 read.logs legal.logs read.main is_page1.0 is_page1.1 told passes1 passes2
 
-    pub missing_of : (count : ℕ) (result : Option ℕ) → count ≡ pages_read looked.one looked.two page1.header.pages → 1 ≤ count
+    pub missing_of : (count : ℕ) (result : Option ℕ) → count ≡ pages_told looked.one looked.two page1.header.pages → 1 ≤ count
         → first_missing (is_whole_by looked.one looked.two page1.header.page_size looked.main) 1 count ≡ result → missing_fault files ≡ of_missing result
     missing_of count result is =
         missing_is files looked.one looked.two looked.main page1 read.logs legal.logs read.main is_page1.0 is_page1.1 told passes1 passes2 count result
@@ -122,7 +122,7 @@ module _ (looked : Looked) (page1 : First) (legal : IsLegalLook looked) (is_old 
               ) refl;
           named = λ old.
               v.named
-              ∙ named_size_is files looked.one looked.two looked.main page1 read.logs legal.logs read.main is_page1.0 is_page1.1 told passes1 passes2 (pages_read looked.one looked.two page1.header.pages)
+              ∙ named_size_is files looked.one looked.two looked.main page1 read.logs legal.logs read.main is_page1.0 is_page1.1 told passes1 passes2 (pages_told looked.one looked.two page1.header.pages)
               (counted files looked.one looked.two looked.main page1 read.logs legal.logs read.main is_page1.0 is_page1.1 told passes1 passes2)
               ∙ rw v.page_size refl;
           byte = λ old.
@@ -140,7 +140,7 @@ module _ (looked : Looked) (page1 : First) (legal : IsLegalLook looked) (is_old 
               (sym (ap (λ (n : ℕ). is_whole_by looked.one looked.two n looked.main (k + 1)) size_is) ∙ whole)));
         }
 
-  pub fault_is : (count : ℕ) (why : LookFault) → count ≡ pages_read looked.one looked.two page1.header.pages → 1 ≤ count → IsMissing (is_whole_by looked.one looked.two page1.header.page_size looked.main) count why
+  pub fault_is : (count : ℕ) (why : LookFault) → count ≡ pages_told looked.one looked.two page1.header.pages → 1 ≤ count → IsMissing (is_whole_by looked.one looked.two page1.header.page_size looked.main) count why
       → IsSeenFault looked why
   fault_is count Memory is some missing = tt
   fault_is count (Missing page) is some missing = λ files read. missing_of files read count (Some page) is some missing

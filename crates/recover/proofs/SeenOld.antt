@@ -25,7 +25,7 @@ use Rattle.recover.specs.declared.scan.First.{First}
 use Rattle.recover.specs.declared.seen.LookFault.TheVariants.{Missing, ForeignLog}
 use Rattle.recover.specs.Places.{IsPlaceOf, FitsPlace}
 use Rattle.recover.specs.Seeing.{one_in, two_in, first_in, size_in, map_found, is_new_in, is_some_list, is_held, first_missing, missing_fault, of_missing, of_size}
-use Rattle.recover.specs.Looking.{AreScanned, AreLegal, TellsFirst, bytes_at, place_in, page_size_of_log, size_read, pages_read, size_over, named_read, size_counts, is_whole_at, is_whole_by}
+use Rattle.recover.specs.Looking.{AreScanned, AreLegal, TellsFirst, bytes_at, place_in, page_size_of_log, size_read, pages_told, size_over, named_read, size_counts, is_whole_at, is_whole_by}
 use Rattle.recover.proofs.PlacesHold.{HoldsAt, is_in_main, whole_is}
 use Rattle.recover.proofs.LogsRead.{place_holds, in_order, one_of, two_of, some1, some2, earlier, IsOfLog, ours_front}
 use Rattle.recover.proofs.Page1.{le_of, le_false}
@@ -118,9 +118,9 @@ module _ (files : Files) (one two : Accepted) (main : ℕ) (first : First) (scan
       ≡ pages_from (λ number. page_in size files (one_in files) (two_in files) number) 1 (size_after (newer_in files (one_in files) (two_in files)) (size_after (older_in files (one_in files) (two_in files)) given))
   map_is = refl
 
-  pub counted : pages_read one two first.header.pages ≡ length (map_found files)
+  pub counted : pages_told one two first.header.pages ≡ length (map_found files)
   counted =
-      ap (λ (n : ℕ). pages_read one two n) given_is ∙ by (earlier files one two scanned) ∙ sym (in_order files one two scanned (λ (older newer : List Frame). size_after newer (size_after older given)) (λ frames. refl))
+      ap (λ (n : ℕ). pages_told one two n) given_is ∙ by (earlier files one two scanned) ∙ sym (in_order files one two scanned (λ (older newer : List Frame). size_after newer (size_after older given)) (λ frames. refl))
       ∙ sym (length_pages (λ number. page_in size files (one_in files) (two_in files) number) 1 (size_after (newer_in files (one_in files) (two_in files)) (size_after (older_in files (one_in files) (two_in files)) given)))
     where
       over1 : (below : ℕ) → size_over one.size below ≡ size_after f1 below
@@ -178,7 +178,7 @@ module _ (files : Files) (one two : Accepted) (main : ℕ) (first : First) (scan
       ap (λ (n : ℕ). first_missing (is_held files) 1 n) all ∙ sym (same_held (is_whole_by one two first.header.page_size main) (is_held files) 1 count (λ n from less. whole_held n)) ∙ found in
       rw (old, same) refl
 
-  pub none_there : pages_read one two first.header.pages ≡ 0 → missing_fault files ≡ Some (Missing 1)
+  pub none_there : pages_told one two first.header.pages ≡ 0 → missing_fault files ≡ Some (Missing 1)
   none_there none =
       let all : max 1 (length (map_found files)) ≡ 1 = omega (arith, counted, none) in
       let free : is_held files 1 ≡ false = sym (whole_held 1) ∙ not_whole in

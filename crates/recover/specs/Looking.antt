@@ -85,9 +85,9 @@ abbrev pub file_of : Place → File
 file_of InMain = Main
 file_of (InLog file at) = file
 
-abbrev pub start_of : Place → ℕ
-start_of InMain = 0
-start_of (InLog file at) = at
+abbrev pub start_at : Place → ℕ
+start_at InMain = 0
+start_at (InLog file at) = at
 
 -- a log has that many bytes of page 1 there
 abbrev pub FitsFirst : Files → Place → Type 0
@@ -140,8 +140,8 @@ abbrev pub size_over : ℕ → ℕ → ℕ
 size_over size below = if size == 0 then below else size
 
 -- the size in pages of the recovered map, where page 1 gives so many
-abbrev pub pages_read : Accepted → Accepted → ℕ → ℕ
-pages_read one two given =
+abbrev pub pages_told : Accepted → Accepted → ℕ → ℕ
+pages_told one two given =
     if nat_lt (generation_in one.front) (generation_in two.front) then size_over two.size (size_over one.size given) else size_over one.size (size_over two.size given)
 
 -- the size in pages that page 1 names for Main, once it has so many
@@ -187,10 +187,10 @@ judged looked hot = first_fault (
     ∷ [])
 
 -- The fault is want of memory, or that the disk failed.
-abbrev pub IsOutside : LookFault → Type 0
-IsOutside Disk = Unit {0}
-IsOutside Memory = Unit {0}
-IsOutside fault = ⊥
+abbrev pub IsOutsideFault : LookFault → Type 0
+IsOutsideFault Disk = Unit {0}
+IsOutsideFault Memory = Unit {0}
+IsOutsideFault fault = ⊥
 
 -- The fault is one of those, or the one of the header.
 abbrev pub IsHeaderFault : Option History → LookFault → Type 0
@@ -228,6 +228,6 @@ keeps_count Disk = false
 keeps_count fault = true
 
 -- the disk did its part
-abbrev pub is_disk_well : {T : Type 0} → Result T LookFault → Bool
-is_disk_well (Ok value) = true
-is_disk_well (Err fault) = keeps_count fault
+abbrev pub is_disk_fine : {T : Type 0} → Result T LookFault → Bool
+is_disk_fine (Ok value) = true
+is_disk_fine (Err fault) = keeps_count fault

@@ -5,7 +5,7 @@ ghost use Rattle.disk_face.specs.Files.{Files};
 ghost use Rattle.disk_face.specs.Stays.{OnlyReads};
 ghost use Rattle.page_spec.specs.Header.{is_page_size};
 ghost use Rattle.recover.specs.Seeing.{RefusesLook, HasSeen, IsSeen, IsWholeSeen, files_told, missing_fault, is_some_list};
-ghost use Rattle.recover.specs.Looking.{AreRead, IsLegalLook, IsSeenFault, is_disk_well, logs_read, size_over, pages_read, named_read};
+ghost use Rattle.recover.specs.Looking.{AreRead, IsLegalLook, IsSeenFault, is_disk_fine, logs_read, size_over, pages_told, named_read};
 
 use crate::judge::judge;
 use crate::places::{find_places, generation_of};
@@ -25,7 +25,7 @@ fn size_over(found: &Accepted, below: u32) -> u32
 
 /// The size in pages of the recovered map, where page 1 gives so many.
 fn count_pages(one: &Accepted, two: &Accepted, given: u32) -> u32
-    ensures { result ≡ pages_read one.now two.now given }
+    ensures { result ≡ pages_told one.now two.now given }
 {
     if generation_of(&one.front) < generation_of(&two.front) {
         size_over(two, size_over(one, given))
@@ -150,7 +150,7 @@ pub fn look<D: Disk>(alloc: Global, disk: &mut D, setup: &Setup) -> Result<Seen,
     ensures seen { IfOk result (λ seen. HasSeen setup.now.page_size (files_told (D.told disk.old)) (D.journal_answer disk.old) seen) }
     ensures refused { IfErr result (λ why. RefusesLook (D.faults disk.old) (D.faults disk.new) (files_told (D.told disk.old)) (D.journal_answer disk.old) why) }
     ensures stays { OnlyReads D.DiskTells disk.old disk.new }
-    ensures faults { Counts (is_disk_well result) (D.faults disk.old) (D.faults disk.new) }
+    ensures faults { Counts (is_disk_fine result) (D.faults disk.old) (D.faults disk.new) }
 {
     match read_files(alloc, disk) {
         Ok(looked) => match judge(disk, &looked) {

@@ -4,7 +4,7 @@ ghost use Rattle.std.specs.Prelude.{◌≡◌, ◌<◌, ◌^◌, true, Some, Non
 ghost use Rattle.disk_face.specs.Faults.{Counts};
 ghost use Rattle.disk_face.specs.Stays.{OnlyReads};
 ghost use Rattle.recover.specs.Seeing.{of_legacy, of_size, foreign_fault, last_written};
-ghost use Rattle.recover.specs.Looking.{wal_read, size_read, founds_read, room_read, logs_read, IsJudged, judged, is_disk_well};
+ghost use Rattle.recover.specs.Looking.{wal_read, size_read, founds_read, room_read, logs_read, IsJudged, judged, is_disk_fine};
 
 use crate::places::generation_of;
 use crate::scan::{First, Looked};
@@ -162,7 +162,7 @@ pub(crate) fn judge<D: Disk>(disk: &mut D, looked: &Looked) -> Result<(), LookFa
     ensures logs { OnOk result (logs_read looked.now ≡ None) }
     ensures refused { IfErr result (λ why. IsJudged looked.now (D.journal_answer disk.old) why) }
     ensures stays { OnlyReads D.DiskTells disk.old disk.new }
-    ensures faults { Counts (is_disk_well result) (D.faults disk.old) (D.faults disk.new) }
+    ensures faults { Counts (is_disk_fine result) (D.faults disk.old) (D.faults disk.new) }
 {
     if let Some(fault) = wal_fault(&looked.page1, &looked.one.front) {
         return Err(fault);

@@ -9,7 +9,7 @@ ghost use Rattle.disk_face.specs.Steps.{reads};
 ghost use Rattle.disk_face.specs.Told.{IsSize, IsInside, IsRead};
 ghost use Rattle.db_header.specs.Header.{refusal, IsTold};
 ghost use Rattle.wal_frames.specs.Found.{FindsAccepted, IsLegal, log_file};
-ghost use Rattle.recover.specs.Looking.{TellsFirst, AreRead, IsLegalLook, IsOutside, IsHeaderFault, is_disk_well, size_counts, bytes_at, first_size_at, file_of, start_of, FitsFirst, IsFirstFault, AreLegal, AreScanned, IsPage1, place_in, is_new_read};
+ghost use Rattle.recover.specs.Looking.{TellsFirst, AreRead, IsLegalLook, IsOutsideFault, IsHeaderFault, is_disk_fine, size_counts, bytes_at, first_size_at, file_of, start_at, FitsFirst, IsFirstFault, AreLegal, AreScanned, IsPage1, place_in, is_new_read};
 
 use crate::place::Place;
 use crate::places::first_place;
@@ -57,9 +57,9 @@ fn scan_log<D: Disk>(alloc: Global, disk: &mut D, log: u8) -> Result<Accepted, L
     ensures found { IfOk result (λ found. IfSome (D.told disk.old) (λ told. FindsAccepted log (content (reads told) (log_file log)) found)) }
     ensures legal { IfOk result (λ found. IsLegal log found) }
     ensures few { IfOk result (λ found. length found.pages.items ≤ 4294967295) }
-    ensures fault { IfErr result IsOutside }
+    ensures fault { IfErr result IsOutsideFault }
     ensures stays { OnlyReads D.DiskTells disk.old disk.new }
-    ensures faults { Counts (is_disk_well result) (D.faults disk.old) (D.faults disk.new) }
+    ensures faults { Counts (is_disk_fine result) (D.faults disk.old) (D.faults disk.new) }
 {
     match accepted(alloc, disk, log) {
         Ok(found) => {
@@ -124,8 +124,8 @@ fn first_size(place: Place, main: u64) -> usize
 /// Reads bytes from where a page stands on.
 fn read_place<D: Disk>(disk: &mut D, place: Place, bytes: &mut [u8]) -> Result<(), LookFault>
     requires attached { D.attached disk.old ≡ true }
-    requires inside { IsInside (D.told disk.old) (file_of place) (start_of place) (length bytes.old) }
-    ensures bytes { OnOk result (IsRead (D.told disk.old) (file_of place) (start_of place) bytes.new) }
+    requires inside { IsInside (D.told disk.old) (file_of place) (start_at place) (length bytes.old) }
+    ensures bytes { OnOk result (IsRead (D.told disk.old) (file_of place) (start_at place) bytes.new) }
     ensures fault { IfErr result (λ why. why ≡ LookFault.Disk) }
     ensures stays { OnlyReads D.DiskTells disk.old disk.new }
     ensures faults { Counts (is_ok result) (D.faults disk.old) (D.faults disk.new) }
@@ -155,7 +155,7 @@ fn tell_place<D: Disk>(
     ensures legal { IfOk result (λ first. IsTold first.header) }
     ensures refused { IfErr result (λ why. IsFirstFault (D.told disk.old) place main why) }
     ensures stays { OnlyReads D.DiskTells disk.old disk.new }
-    ensures faults { Counts (is_disk_well result) (D.faults disk.old) (D.faults disk.new) }
+    ensures faults { Counts (is_disk_fine result) (D.faults disk.old) (D.faults disk.new) }
 {
     match read_place(disk, place, bytes) {
         Ok(()) => match tell_first(bytes, main) {
@@ -175,7 +175,7 @@ fn read_first<D: Disk>(disk: &mut D, place: Place, main: u64) -> Result<First, L
     ensures legal { IfOk result (λ first. IsTold first.header) }
     ensures refused { IfErr result (λ why. IsFirstFault (D.told disk.old) place main why) }
     ensures stays { OnlyReads D.DiskTells disk.old disk.new }
-    ensures faults { Counts (is_disk_well result) (D.faults disk.old) (D.faults disk.new) }
+    ensures faults { Counts (is_disk_fine result) (D.faults disk.old) (D.faults disk.new) }
 {
     let mut room = [0u8; FIRST_SIZE];
     let count = first_size(place, main);
@@ -204,7 +204,7 @@ fn read_page1<D: Disk>(
     ensures legal { IfOk result (λ page1. IfSome page1 (λ first. IsTold first.header)) }
     ensures refused { IfErr result (λ why. IsHeaderFault (D.told disk.old) why) }
     ensures stays { OnlyReads D.DiskTells disk.old disk.new }
-    ensures faults { Counts (is_disk_well result) (D.faults disk.old) (D.faults disk.new) }
+    ensures faults { Counts (is_disk_fine result) (D.faults disk.old) (D.faults disk.new) }
 {
     if is_new(one, two, main) {
         return Ok(None);
@@ -220,9 +220,9 @@ fn scan_logs<D: Disk>(alloc: Global, disk: &mut D) -> Result<(Accepted, Accepted
     requires { D.attached disk.old ≡ true }
     ensures scanned { IfOk result (λ logs. IfSome (D.told disk.old) (λ told. AreScanned (reads told) logs.0 logs.1)) }
     ensures legal { IfOk result (λ logs. AreLegal logs.0 logs.1) }
-    ensures fault { IfErr result IsOutside }
+    ensures fault { IfErr result IsOutsideFault }
     ensures stays { OnlyReads D.DiskTells disk.old disk.new }
-    ensures faults { Counts (is_disk_well result) (D.faults disk.old) (D.faults disk.new) }
+    ensures faults { Counts (is_disk_fine result) (D.faults disk.old) (D.faults disk.new) }
 {
     match scan_log(alloc, disk, 1) {
         Ok(one) => match scan_log(alloc, disk, 2) {
@@ -240,7 +240,7 @@ pub(crate) fn read_files<D: Disk>(alloc: Global, disk: &mut D) -> Result<Looked,
     ensures legal { IfOk result (λ looked. IsLegalLook looked) }
     ensures refused { IfErr result (λ why. IsHeaderFault (D.told disk.old) why) }
     ensures stays { OnlyReads D.DiskTells disk.old disk.new }
-    ensures faults { Counts (is_disk_well result) (D.faults disk.old) (D.faults disk.new) }
+    ensures faults { Counts (is_disk_fine result) (D.faults disk.old) (D.faults disk.new) }
 {
     match scan_logs(alloc, disk) {
         Ok((one, two)) => {
