@@ -15,4 +15,5 @@ mod SeenOld
 mod OldView
 mod Judged
 pub mod SeenLaws
+pub mod SeenPages
 pub mod First
