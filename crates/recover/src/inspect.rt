@@ -143,7 +143,8 @@ fn see(alloc: Global, looked: &Looked, new_size: u32) -> Result<Seen, LookFault>
 ///
 /// Of causes that stand together the first of [`LookFault`]'s list is told, each exactly where the files, or the journal's answer, show it. `Disk` comes
 /// where a call on the disk failed, before what would have been told after it. `Memory` is want of memory for the page numbers of both logs or for
-/// 16 bytes a page. Where nothing is there yet `setup` says the page size.
+/// 16 bytes a page; more than 4,294,967,295 frames of a log, or as many pages that are whole, count as that. Where nothing is there yet `setup`
+/// says the page size.
 pub fn look<D: Disk>(alloc: Global, disk: &mut D, setup: &Setup) -> Result<Seen, LookFault>
     requires attached { D.attached disk.old ≡ true }
     requires page_size { IsTrue (is_page_size setup.now.page_size) }
