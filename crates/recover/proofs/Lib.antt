@@ -1,4 +1,19 @@
 mod Placing
 mod Laying
 mod Resets
+mod Page1
+mod Missing
+mod FirstRead
+mod PlacesHold
+mod LogsRead
+mod Page1Read
+mod Held
+mod SizesRead
+mod Enough
+mod HeaderRead
+mod SeenOld
+mod OldView
+mod Judged
+pub mod SeenLaws
+pub mod SeenPages
 pub mod First

@@ -1,3 +1,4 @@
 pub mod Places
 pub mod Headers
 pub mod Seeing
+pub mod Looking

@@ -1,10 +1,11 @@
 -- What an opening sees of a database's files, and why it refuses them.
 use Rattle.std.specs.List.{list_any}
-use Rattle.std.specs.Prelude.{◌≡◌, ◌⊎◌, ◌↔◌, ℕ, suc, ◌+◌, ◌-◌, ◌*◌, ◌%◌, ◌<◌, ◌≤◌, ◌==◌, max, nat_lt, nat_le, Bool, true, false, ◌&&◌, ◌||◌, not, if◌then◌else◌, List, [], ◌∷◌, ◌++◌, length, take, slice_index, Contains, Option, Some, None, IsTrue, IfSome, zero}
+use Rattle.std.specs.Prelude.{◌≡◌, ℕ, suc, ◌+◌, ◌-◌, ◌*◌, ◌%◌, ◌<◌, ◌≤◌, ◌==◌, max, nat_lt, nat_le, Bool, true, false, ◌&&◌, ◌||◌, not, if◌then◌else◌, List, [], ◌∷◌, length, slice_index, Option, Some, None, IsTrue, IfSome, zero}
 use Rattle.disk_face.specs.declared.disk.File.{File}
 use Rattle.disk_face.specs.declared.disk.File.TheVariants.{Log1, Log2}
 use Rattle.disk_face.specs.Faults.{Rose}
 use Rattle.disk_face.specs.Files.{Files}
+use Rattle.disk_face.specs.Steps.{History, reads}
 use Rattle.page_spec.specs.Header.{fields_of, page_size_in, pages_in, is_page_size}
 use Rattle.page_spec.specs.PageMap.{PageMap, page_at}
 use Rattle.log_spec.specs.LogHeader.{last_generation}
@@ -14,7 +15,7 @@ use Rattle.db_header.specs.declared.fault.HeaderFault.{HeaderFault}
 use Rattle.wal_frames.specs.declared.header.Front.{Front}
 use Rattle.wal_frames.specs.declared.header.Front.TheVariants.{Nothing, Foreign, Ours}
 use Rattle.wal_frames.specs.Front.{front_of, IsLegalFront}
-use Rattle.crash_spec.specs.Recovered.{first_bytes, recovered}
+use Rattle.crash_spec.specs.Recovered.{first_bytes}
 use Rattle.opening_spec.specs.Found.{FoundLog, OpeningView, older_in, newer_in, map_in, pages_held}
 use Rattle.opening_spec.specs.Begins.{found_in}
 use Rattle.recover.specs.Headers.{generation_in, next_even}
@@ -204,6 +205,11 @@ fault_of files hot = first_fault (
     ∷ room_fault files
     ∷ missing_fault files
     ∷ [])
+
+-- the files of a disk that tells them
+abbrev pub files_told : Option History → Option Files
+files_told None = None
+files_told (Some told) = Some (reads told)
 
 -- A look at a disk was answered so: a fault of the files is told exactly where it is the first one, and a failed disk only where the count
 -- of faults rose.

@@ -1,4 +1,6 @@
 // What an opening sees of a database's files before it writes anything.
+ghost use Rattle.std.specs.Prelude.{◌≡◌, ◌<◌, length};
+
 use crate::place::Place;
 use db_header::HeaderFault;
 use disk_face::File;
@@ -75,6 +77,52 @@ impl Model for Seen {
       some_frames = seen.some_frames;
       places = seen.places.items;
     } };
+}
+
+impl Seen {
+    /// Nothing is there yet: the database is empty, and no log has an accepted frame.
+    pub fn is_new(&self) -> bool
+        ensures { result ≡ self.now.is_new }
+    {
+        self.is_new
+    }
+
+    /// The page size in bytes: that of page 1, or what a new database gets.
+    pub fn page_size(&self) -> u32
+        ensures { result ≡ self.now.page_size }
+    {
+        self.page_size
+    }
+
+    /// How many bytes of a page are in use.
+    pub fn usable(&self) -> u32
+        ensures { result ≡ self.now.usable }
+    {
+        self.usable
+    }
+
+    /// The size in pages of the recovered map, 0 where nothing is there yet.
+    pub fn pages(&self) -> u32
+        requires { length self.now.places < 4294967295 }
+        ensures { result ≡ length self.now.places }
+    {
+        self.places.len() as u32
+    }
+
+    /// The size in pages that page 1 names, for a file as long as the database is once all that the logs hold is written to it; 0 where
+    /// nothing is there yet.
+    pub fn named(&self) -> u32
+        ensures { result ≡ self.now.named }
+    {
+        self.named
+    }
+
+    /// Byte 100 of page 1, 0 where nothing is there yet.
+    pub fn byte(&self) -> u8
+        ensures { result ≡ self.now.byte }
+    {
+        self.byte
+    }
 }
 
 // The number of a log.
