@@ -3,3 +3,4 @@ mod Bare
 mod Fetched
 mod Buffers
 mod Images
+mod Entering

@@ -52,6 +52,7 @@ impl Commits {
     /// How many there are.
     pub fn len(&self) -> usize
         ensures count { result ≡ length self.now.commits }
+        ensures few { result + 1 < 2 ^ 64 }
     {
         self.entries.len()
     }

@@ -1,4 +1,4 @@
-mod Places
+pub mod Places
 mod Held
 mod Conflicts
 mod Search

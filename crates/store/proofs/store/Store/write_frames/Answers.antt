@@ -1,0 +1,13 @@
+use Rattle.std.proofs.Common.{◌≡◌, ◌∙◌, ◌<◌, ◌≤◌, ℕ, List, ap, subst, sym, length, arith}
+use Rattle.std.specs.Prelude.{All}
+use Rattle.store.proofs.store.Store.write_frames.Goals as goal
+use Rattle.engine_spec.specs.declared.commits.PageImage.{PageImage}
+use Rattle.laying.specs.Order.{in_order}
+use Rattle.laying.proofs.Orders.{all_in_order}
+use Rattle.log_pair.specs.Pair.{current_header}
+
+pub write_commit-requires-clause-pages : goal.write_commit-requires-clause-pages
+write_commit-requires-clause-pages g c =
+    subst (λ (order : List ℕ). All (λ image. (0 < image.page) × (length image.bytes ≡ (current_header c.args.self.now.pair).page_size)) (in_order c.args.changed.now order)) (sym c.as_slice-2.ensures.value)
+    (all_in_order (λ (image : PageImage). (0 < image.page) × (length image.bytes ≡ (current_header c.args.self.now.pair).page_size)) c.args.changed.now c.args.plan.now.order.items
+    (λ k d within. (let has = c.requires.images k d within in (has.0, has.1 ∙ sym c.requires.whole.page_size))) c.requires.plan.order.places)
