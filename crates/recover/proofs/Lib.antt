@@ -2,3 +2,5 @@ mod Placing
 mod Laying
 mod Resets
 pub mod First
+mod FirstPages
+mod Committing

@@ -1,3 +1,5 @@
 pub mod Places
 pub mod Headers
 pub mod Seeing
+pub mod NewPages
+pub mod Founding

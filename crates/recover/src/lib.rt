@@ -4,7 +4,9 @@
 //! began, and which state the files are in then.
 #![tactic(auto)]
 
+mod founding;
 mod header;
+mod new_pages;
 mod pages;
 mod place;
 mod seen;

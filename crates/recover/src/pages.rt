@@ -21,7 +21,7 @@ use crate::place::Place;
 use disk_face::{Disk, Failed, File};
 
 /// Writes a page of Main with the bytes that it has in the recovered map. Nothing is synced.
-fn write_page<D: Disk>(disk: &mut D, number: u32, bytes: &[u8]) -> Result<(), Failed>
+pub(crate) fn write_page<D: Disk>(disk: &mut D, number: u32, bytes: &[u8]) -> Result<(), Failed>
     requires attached { D.attached disk.old ≡ true }
     requires number { 1 ≤ number }
     requires small { length bytes.now ≤ 65536 }
@@ -120,7 +120,7 @@ fn write_pages<D: Disk>(disk: &mut D, places: &[Place], buf: &mut [u8]) -> Resul
 }
 
 /// Has the pages that were written reach the medium.
-fn sync_main<D: Disk>(disk: &mut D) -> Result<(), Failed>
+pub(crate) fn sync_main<D: Disk>(disk: &mut D) -> Result<(), Failed>
     requires attached { D.attached disk.old ≡ true }
     ensures moments { (view : OpeningView) (one two : FoundLog) (next : ℕ) → Since view.opening.start (IsWriting view one two next) (D.told disk.old)
         → Passes view.opening (LeavesMap view) (ByAnswer (is_ok result) (IsLaidDown view one two next) (AreSynced view one two)) (D.told disk.old) (D.told disk.new) }

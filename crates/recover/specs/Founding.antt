@@ -1,0 +1,69 @@
+-- The first commit of a new database, or of one whose versions aren't this program's.
+use Rattle.std.specs.Prelude.{◌≡◌, ◌≢◌, ℕ, ◌+◌, ◌<◌, ◌^◌, List, [], ◌∷◌, length, Option, IfSome}
+use Rattle.disk_face.specs.Steps.{History, reads}
+use Rattle.page_spec.specs.PageMap.{PageMap}
+use Rattle.log_spec.specs.Accept.{Frame, page_number, page_of, last_size}
+use Rattle.crash_spec.specs.Opening.{Since}
+use Rattle.crash_spec.specs.Passes.{Passes}
+use Rattle.crash_spec.specs.Recovered.{overlaid}
+use Rattle.crash_spec.specs.Store.{named_size}
+use Rattle.opening_spec.specs.Found.{FoundLog, OpeningView}
+use Rattle.opening_spec.specs.States.{AreSynced, IsFounding, LeavesEither}
+use Rattle.log_pair.specs.Pair.{PairView, current_header}
+use Rattle.log_pair.specs.Appending.{LogStands}
+
+-- the frames hold these pages, one each, in rising order from this number on
+abbrev pub HoldFrom : (ℕ → List ℕ) → ℕ → List Frame → Type 0
+HoldFrom page number [] = Unit {0}
+HoldFrom page number (frame ∷ rest) = (page_number frame ≡ number) × (page_of frame ≡ page number) × HoldFrom page (number + 1) rest
+
+-- Frames of so many pages, the last of which ends a commit of this size, make this map over Main with pages of this size, whatever their
+-- salts and checksums are.
+abbrev pub MakesMap : (main : List ℕ) (page_size : ℕ) (later : PageMap) (page : ℕ → List ℕ) (count size : ℕ) → Type 0
+MakesMap main page_size later page count size =
+    (frames : List Frame) → HoldFrom page 1 frames → length frames ≡ count → last_size frames ≡ size
+    → (overlaid main [] frames ≡ later) × (named_size main [] frames ≡ page_size)
+
+-- The first commit is under way: log 1 is the pair's current one and has its new header, and these frames stand behind it.
+pub record IsCommitting (view : OpeningView) (later : PageMap) (main : List ℕ) (pair : PairView) (one two : FoundLog) (frames : List Frame) (told : History) : Type 0 where
+  pub founding : IsFounding view later (current_header pair) frames one two told
+  pub stands : LogStands view.opening pair [] frames told
+  pub main_is : (reads told).main ≡ main
+  pub small : one.salt < 2 ^ 32
+
+-- what an opening goes by once the commit is made: the map with it, and Main as long as it is then
+abbrev pub later_view : OpeningView → PageMap → (main : List ℕ) → OpeningView
+later_view view later main = record { opening = view.opening; size = view.size; long = length main; map = later }
+
+-- log 1 with these frames
+abbrev pub with_first : FoundLog → List Frame → FoundLog
+with_first one frames = record { frames = frames; salt = one.salt; most = one.most }
+
+-- The first commit is on the medium.
+pub record HasCommitted (view : OpeningView) (later : PageMap) (main : List ℕ) (one two : FoundLog) (frames : List Frame) (told : History) : Type 0 where
+  pub synced : AreSynced (later_view view later main) (with_first one frames) two told
+  pub main_is : (reads told).main ≡ main
+  pub none : two.frames ≡ []
+
+-- from a state of the first commit to another one
+abbrev pub Commits : PairView → (page : ℕ → List ℕ) (count size : ℕ) → (OpeningView → PageMap → List ℕ → FoundLog → FoundLog → History → Type 0) → Option History → Option History → Type 0
+Commits pair page count size Then old new =
+    (view : OpeningView) (later : PageMap) (main : List ℕ) (one two : FoundLog) → (size ≢ 0 → MakesMap main view.size later page count size)
+    → Since view.opening.start (IsCommitting view later main pair one two []) old
+    → Passes view.opening (LeavesEither view later) (Then view later main one two) old new
+
+-- Frames of so many pages were appended.
+abbrev pub AppendsPages : (pair later : PairView) (page : ℕ → List ℕ) (count size : ℕ) → Option History → Option History → Type 0
+AppendsPages pair later page count size old new =
+    (frames : List Frame) × HoldFrom page 1 frames × (length frames ≡ count) × (last_size frames ≡ size)
+    × Commits pair page count size (λ view map main one two. IsCommitting view map main later one two frames) old new
+
+-- They were appended and sealed.
+abbrev pub CommitsPages : (pair : PairView) (page : ℕ → List ℕ) (count size : ℕ) → Option History → Option History → Type 0
+CommitsPages pair page count size old new =
+    (frames : List Frame) × HoldFrom page 1 frames × (length frames ≡ count)
+    × Commits pair page count size (λ view map main one two. HasCommitted view map main one two frames) old new
+
+-- A call of it failed.
+abbrev pub FailsToCommit : (pair : PairView) (page : ℕ → List ℕ) (count size : ℕ) → Option History → Option History → Type 0
+FailsToCommit pair page count size old new = Commits pair page count size (λ view map main one two told. Unit {0}) old new

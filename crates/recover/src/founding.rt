@@ -1,0 +1,137 @@
+// The first commit of a new database, or of one whose versions aren't this program's.
+//
+// Its frames stand in log 1 behind a header of their own, and are on the medium before a byte of them is written to Main: while a page
+// of Main is torn, the log has it. Log 2 has no frame meanwhile.
+ghost use Rattle.std.specs.Prelude.{◌≡◌, ◌≢◌, ◌+◌, ◌-◌, ◌*◌, ◌≤◌, ◌<◌, true, is_ok, [], length, replicate, OnOk, OnErr, IfOk, IfSome, IsTrue};
+ghost use Rattle.disk_face.specs.Faults.{Counts};
+ghost use Rattle.disk_face.specs.Stays.{OnlyWrites};
+ghost use Rattle.disk_face.specs.Steps.{reads};
+ghost use Rattle.disk_face.specs.Told.{IsInside};
+ghost use Rattle.disk_face.specs.declared.disk.File.TheVariants.{Main};
+ghost use Rattle.crash_spec.specs.Opening.{Since};
+ghost use Rattle.crash_spec.specs.Passes.{Passes, ByAnswer, WhereDone};
+ghost use Rattle.log_pair.specs.Pair.{current_header, written_frames};
+ghost use Rattle.log_pair.specs.Appending.{IsReached};
+ghost use Rattle.opening_spec.specs.Found.{FoundLog, OpeningView};
+ghost use Rattle.opening_spec.specs.States.{AreSynced, IsWriting, IsLaidDown, LeavesMap};
+ghost use Rattle.recover.specs.NewPages.{first_then_zeros};
+ghost use Rattle.recover.specs.Founding.{HoldFrom, AppendsPages, CommitsPages, FailsToCommit};
+
+use crate::pages::{sync_main, write_page};
+use disk_face::{Disk, Failed};
+use log_pair::LogPair;
+
+/// Appends the pages of the first commit: the one in the buffer, and behind it pages of zero bytes. The last one ends the commit, after
+/// which the database has `size` pages. Where there are several, the buffer is zero then.
+fn append_pages<D: Disk>(
+    pair: &mut LogPair,
+    disk: &mut D,
+    buf: &mut [u8],
+    pages: u32,
+    size: u32,
+) -> Result<(), Failed>
+    requires attached { D.attached disk.old ≡ true }
+    requires current { pair.old.current ≡ 1 }
+    requires none { written_frames pair.old ≡ 0 }
+    requires pages { 1 ≤ pages }
+    requires size { size ≢ 0 }
+    requires page_size { length buf.old ≡ (current_header pair.old).page_size }
+    requires reached { IsReached (D.told disk.old) pair.old }
+    ensures appended { OnOk result (AppendsPages pair.old pair.new (first_then_zeros buf.old) pages size (D.told disk.old) (D.told disk.new)) }
+    ensures fails { OnErr result (FailsToCommit pair.old (first_then_zeros buf.old) pages size (D.told disk.old) (D.told disk.new)) }
+    ensures current { pair.new.current ≡ 1 }
+    ensures some { OnOk result (0 < pair.new.appended) }
+    ensures room { length buf.new ≡ length buf.old }
+    ensures stays { OnlyWrites D.DiskTells disk.old disk.new }
+    ensures faults { Counts (is_ok result) (D.faults disk.old) (D.faults disk.new) }
+{
+    let mut number = 1;
+    while number < pages {
+        match pair.append(disk, number, buf, 0) {
+            Ok(()) => {
+                buf.fill(0);
+                number += 1;
+            }
+            Err(Failed) => return Err(Failed),
+        }
+    }
+    match pair.append(disk, number, buf, size) {
+        Ok(()) => Ok(()),
+        Err(Failed) => Err(Failed),
+    }
+}
+
+/// Makes the first commit in log 1: its pages are appended, as `append_pages` does, and reach the medium.
+fn commit_pages<D: Disk>(
+    pair: &mut LogPair,
+    disk: &mut D,
+    buf: &mut [u8],
+    pages: u32,
+    size: u32,
+) -> Result<(), Failed>
+    requires attached { D.attached disk.old ≡ true }
+    requires current { pair.old.current ≡ 1 }
+    requires none { written_frames pair.old ≡ 0 }
+    requires pages { 1 ≤ pages }
+    requires size { size ≢ 0 }
+    requires page_size { length buf.old ≡ (current_header pair.old).page_size }
+    requires reached { IsReached (D.told disk.old) pair.old }
+    ensures committed { OnOk result (CommitsPages pair.old (first_then_zeros buf.old) pages size (D.told disk.old) (D.told disk.new)) }
+    ensures fails { OnErr result (FailsToCommit pair.old (first_then_zeros buf.old) pages size (D.told disk.old) (D.told disk.new)) }
+    ensures room { length buf.new ≡ length buf.old }
+    ensures stays { OnlyWrites D.DiskTells disk.old disk.new }
+    ensures faults { Counts (is_ok result) (D.faults disk.old) (D.faults disk.new) }
+{
+    match append_pages(pair, disk, buf, pages, size) {
+        Ok(()) => match pair.seal(disk) {
+            Ok(()) => Ok(()),
+            Err(Failed) => Err(Failed),
+        },
+        Err(Failed) => Err(Failed),
+    }
+}
+
+/// Writes the pages of the first commit to Main: the one in the buffer, and behind it pages of zero bytes. Nothing is synced.
+fn write_first<D: Disk>(disk: &mut D, buf: &mut [u8], pages: u32) -> Result<(), Failed>
+    requires attached { D.attached disk.old ≡ true }
+    requires small { length buf.old ≤ 65536 }
+    requires pages { (1 ≤ pages) × (pages < 4294967295) }
+    ensures moments { (view : OpeningView) (one two : FoundLog) → Since view.opening.start (IsWriting view one two 1) (D.told disk.old) → length buf.old ≡ view.size
+        → two.frames ≡ [] → HoldFrom (first_then_zeros buf.old) 1 one.frames → length one.frames ≡ pages
+        → Passes view.opening (LeavesMap view) (ByAnswer (is_ok result) (IsWriting view one two (pages + 1)) (AreSynced view one two)) (D.told disk.old) (D.told disk.new) }
+    ensures stays { OnlyWrites D.DiskTells disk.old disk.new }
+    ensures faults { Counts (is_ok result) (D.faults disk.old) (D.faults disk.new) }
+{
+    let mut number = 1;
+    while number <= pages {
+        match write_page(disk, number, buf) {
+            Ok(()) => {
+                buf.fill(0);
+                number += 1;
+            }
+            Err(Failed) => return Err(Failed),
+        }
+    }
+    Ok(())
+}
+
+/// Writes the pages of the first commit to Main, and has them reach the medium. After `Failed` log 1 still has all of them.
+fn lay_first<D: Disk>(disk: &mut D, buf: &mut [u8], pages: u32) -> Result<(), Failed>
+    requires attached { D.attached disk.old ≡ true }
+    requires small { length buf.old ≤ 65536 }
+    requires pages { (1 ≤ pages) × (pages < 4294967295) }
+    ensures moments { (view : OpeningView) (one two : FoundLog) → Since view.opening.start (AreSynced view one two) (D.told disk.old) → length buf.old ≡ view.size
+        → IfSome (D.told disk.old) (λ told. length (reads told).main ≡ view.long)
+        → two.frames ≡ [] → HoldFrom (first_then_zeros buf.old) 1 one.frames → length one.frames ≡ pages
+        → Passes view.opening (LeavesMap view) (ByAnswer (is_ok result) (IsLaidDown view one two (pages + 1)) (AreSynced view one two)) (D.told disk.old) (D.told disk.new) }
+    ensures stays { OnlyWrites D.DiskTells disk.old disk.new }
+    ensures faults { Counts (is_ok result) (D.faults disk.old) (D.faults disk.new) }
+{
+    match write_first(disk, buf, pages) {
+        Ok(()) => match sync_main(disk) {
+            Ok(()) => Ok(()),
+            Err(Failed) => Err(Failed),
+        },
+        Err(Failed) => Err(Failed),
+    }
+}
