@@ -1,5 +1,5 @@
 -- The first commit, frame by frame, and sealed.
-use Rattle.std.proofs.Common.{◌≡◌, ◌≢◌, ◌⊎◌, ℕ, ◌+◌, ◌≤◌, ◌<◌, Bool, true, false, if◌then◌else◌, inl, inr, List, [], ◌∷◌, ◌++◌, length, length-append, Option, Some, None, refl, sym, ◌∙◌, ap, subst, arith}
+use Rattle.std.proofs.Common.{◌≡◌, ◌≢◌, ◌⊎◌, ℕ, ◌+◌, ◌-◌, ◌≤◌, ◌<◌, Bool, true, false, if◌then◌else◌, inl, inr, List, [], ◌∷◌, ◌++◌, length, length-append, Option, Some, None, refl, sym, ◌∙◌, ap, subst, arith}
 use Rattle.std.proofs.lemmas.Grind.{fold-append}
 use Rattle.disk_face.specs.declared.disk.File.{File}
 use Rattle.disk_face.specs.declared.disk.File.TheVariants.{Log1}
@@ -29,7 +29,7 @@ use Rattle.opening_spec.specs.States.{AreSynced, IsFounding, LeavesEither}
 use Rattle.opening_spec.proofs.Founding.{founding_images, founding_wrote, founding_refused, founded}
 use Rattle.opening_spec.proofs.Synced.{synced_images}
 use Rattle.recover.specs.Founding.{HoldFrom, MakesMap, IsCommitting, HasCommitted, Commits, AppendsPages, CommitsPages, FailsToCommit, later_view, with_first}
-use Rattle.recover.proofs.FirstPages.{hold_push}
+use Rattle.recover.proofs.FirstPages.{hold_push, once_more}
 
 last_push : (frames : List Frame) (frame : Frame) → last_size (frames ++ frame ∷ []) ≡ commit_size frame
 last_push frames frame = fold-append (λ (size : ℕ) (f : Frame). commit_size f) 0 frames (frame ∷ [])
@@ -43,7 +43,7 @@ at_since start P since (steps, is, holds) =
 first_file : (pair : PairView) → pair.current ≡ 1 → current_file pair ≡ Log1
 first_file pair is = ap log_file is
 
-piece_at : File → ℕ → Frame → Piece
+abbrev piece_at : File → ℕ → Frame → Piece
 piece_at file at frame = record { file = file; at = at; bytes = frame }
 
 module _ (view : OpeningView) (later : PageMap) (main : List ℕ) (pair : PairView) (one two : FoundLog) (frames : List Frame) (frame : Frame)
@@ -76,10 +76,7 @@ module _ (view : OpeningView) (later : PageMap) (main : List ℕ) (pair : PairVi
 
   piece_is : (told : History) → Before told → (record { file = Log1; at = end_of frames; bytes = frame }) ≡ next_piece pair frame
   piece_is told b =
-      sym (ap (λ (file : File). at_place file (next_place pair)) (first_file pair first) ∙ ap (λ (at : ℕ). at_place Log1 at) (place_is view.opening pair [] frames told b.stands))
-    where
-      abbrev at_place : File → ℕ → Piece
-      at_place file at = record { file = file; at = at; bytes = frame }
+      sym (ap (λ (file : File). piece_at file (next_place pair) frame) (first_file pair first) ∙ ap (λ (at : ℕ). piece_at Log1 at frame) (place_is view.opening pair [] frames told b.stands))
 
   next_valid : (told : History) → Before told → IsValidFrame (current_header pair) (sum_of_frames (current_header pair) (current_header pair).sum frames) frame
   next_valid told b = subst (λ (s : Sum). IsValidFrame (current_header pair) s frame) b.stands.summed valid
@@ -172,6 +169,31 @@ fails_last pair mid later_pair page count size old near new frame first (frames,
     let before = commits view later main one two (λ some. absurd (some refl)) h in
     passes_join view.opening (LeavesEither view later) (λ told. IsCommitting view later main mid one two frames told) (λ told. Unit {0}) old near new before
     (goes_on view later main mid one two frames frame appends.is.valid ends first (λ some. makes (λ none. some (ends' ∙ none)) all hold' long' ends') false near new appends.step before.holds)
+
+-- the same by the page's number
+abbrev Appended : (ok : Bool) (mid later_pair : PairView) (page : ℕ → List ℕ) (size : ℕ) → Option History → Option History → Frame → ℕ → Type 0
+Appended ok mid later_pair page size near new frame n = AppendsFrame ok mid later_pair n size (page n) near new frame
+
+by_number : (ok : Bool) (mid later_pair : PairView) (page : ℕ → List ℕ) (number size : ℕ) (bytes : List ℕ) (near new : Option History) (frame : Frame) → 1 ≤ number → bytes ≡ page number
+    → AppendsFrame ok mid later_pair number size bytes near new frame → Appended ok mid later_pair page size near new frame (number - 1 + 1)
+by_number ok mid later_pair page number size bytes near new frame from is appends =
+    subst (λ (n : ℕ). Appended ok mid later_pair page size near new frame n) (sym (once_more number from))
+    (subst (λ (bs : List ℕ). AppendsFrame ok mid later_pair number size bs near new frame) is appends)
+
+pub appends_at : (pair mid later_pair : PairView) (page : ℕ → List ℕ) (number size : ℕ) (bytes : List ℕ) (old near new : Option History) (frame : Frame) → 1 ≤ number → mid.current ≡ 1 → bytes ≡ page number
+    → AppendsPages pair mid page (number - 1) 0 old near → AppendsFrame true mid later_pair number size bytes near new frame → AppendsPages pair later_pair page (number - 1 + 1) size old new
+appends_at pair mid later_pair page number size bytes old near new frame from first is before appends =
+    appends_more pair mid later_pair page (number - 1) size old near new frame first before (by_number true mid later_pair page number size bytes near new frame from is appends)
+
+pub fails_at : (pair mid later_pair : PairView) (page : ℕ → List ℕ) (number total size : ℕ) (bytes : List ℕ) (old near new : Option History) (frame : Frame) → 1 ≤ number → mid.current ≡ 1 → bytes ≡ page number
+    → AppendsPages pair mid page (number - 1) 0 old near → AppendsFrame false mid later_pair number 0 bytes near new frame → FailsToCommit pair page total size old new
+fails_at pair mid later_pair page number total size bytes old near new frame from first is before appends =
+    fails_open pair mid later_pair page (number - 1) total size old near new frame first before (by_number false mid later_pair page number 0 bytes near new frame from is appends)
+
+pub fails_last_at : (pair mid later_pair : PairView) (page : ℕ → List ℕ) (number size : ℕ) (bytes : List ℕ) (old near new : Option History) (frame : Frame) → 1 ≤ number → mid.current ≡ 1 → bytes ≡ page number
+    → AppendsPages pair mid page (number - 1) 0 old near → AppendsFrame false mid later_pair number size bytes near new frame → FailsToCommit pair page (number - 1 + 1) size old new
+fails_last_at pair mid later_pair page number size bytes old near new frame from first is before appends =
+    fails_last pair mid later_pair page (number - 1) size old near new frame first before (by_number false mid later_pair page number size bytes near new frame from is appends)
 
 -- the same state, for a view of another length
 pub as_long : (view : OpeningView) (long : ℕ) (one two : FoundLog) (told : History) → AreSynced view one two told

@@ -1,5 +1,5 @@
 -- What the frames of a first commit make of Main.
-use Rattle.std.proofs.Common.{◌≡◌, ℕ, ◌+◌, ◌≤◌, ◌<◌, ◌==◌, Bool, true, false, if◌then◌else◌, inl, inr, List, [], ◌∷◌, ◌++◌, length, take, Option, Some, None, refl, sym, ◌∙◌, ap, subst, arith, zero, suc}
+use Rattle.std.proofs.Common.{◌≡◌, ℕ, ◌+◌, ◌-◌, ◌≤◌, ◌<◌, ◌==◌, Bool, true, false, if◌then◌else◌, inl, inr, List, [], ◌∷◌, ◌++◌, length, take, Option, Some, None, replicate, refl, sym, ◌∙◌, ap, subst, arith, zero, suc}
 use Rattle.std.specs.Prelude.{IfSome, Contains, nat_lt}
 use Rattle.std.proofs.lemmas.Bool.{cases_lt}
 use Rattle.std.proofs.lemmas.Bool.Decides.{nat_tests}
@@ -13,6 +13,7 @@ use Rattle.log_spec.specs.Accept.{Frame, page_number, page_of, page_numbers, las
 use Rattle.crash_spec.specs.Recovered.{main_page, page_after_frames, pages_from, overlaid, laid_over, size_after}
 use Rattle.crash_spec.proofs.Pieces.{contains_head, contains_tail}
 use Rattle.opening_spec.specs.Found.{OpeningView, FoundLog, pages_held, page_in}
+use Rattle.recover.specs.NewPages.{first_then_zeros}
 use Rattle.recover.specs.Founding.{HoldFrom, MakesMap}
 
 pub hold_push : (page : ℕ → List ℕ) (number : ℕ) (frames : List Frame) (frame : Frame) → HoldFrom page number frames → page_number frame ≡ number + length frames → page_of frame ≡ page (number + length frames)
@@ -98,3 +99,14 @@ held_page view one two page n bytes (Some told) none hold from within is =
       Contains-append_left (page_numbers one.frames) (page_numbers two.frames) n has.1,
       is ∙ sym has.0 ∙ sym (either_page (nat_lt (log_fields (reads told).log1).generation (log_fields (reads told).log2).generation) one.frames two.frames n below none),
     )
+
+-- behind the first page they are zero
+pub next_zeros : (first : List ℕ) (number size : ℕ) → 1 ≤ number → size ≡ length first → replicate size 0 ≡ first_then_zeros first (number + 1)
+next_zeros first number size from sized =
+    ap (λ (n : ℕ). replicate n 0) sized ∙ sym (ap (λ (b : Bool). if b then first else replicate (length first) 0) (other_number (number + 1) 1 (omega arith)))
+
+pub once_more : (number : ℕ) → 1 ≤ number → number - 1 + 1 ≡ number
+once_more number from = omega arith
+
+pub one_back : (number : ℕ) → number + 1 - 1 ≡ number
+one_back number = omega arith

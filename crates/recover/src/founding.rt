@@ -21,6 +21,14 @@ use crate::pages::{sync_main, write_page};
 use disk_face::{Disk, Failed};
 use log_pair::LogPair;
 
+/// Makes all bytes zero.
+pub(crate) fn wipe(bytes: &mut [u8])
+    ensures zeros { bytes.new ≡ replicate (length bytes.old) 0 }
+    ensures length { length bytes.new ≡ length bytes.old }
+{
+    bytes.fill(0);
+}
+
 /// Appends the pages of the first commit: the one in the buffer, and behind it pages of zero bytes. The last one ends the commit, after
 /// which the database has `size` pages. Where there are several, the buffer is zero then.
 fn append_pages<D: Disk>(
@@ -49,7 +57,7 @@ fn append_pages<D: Disk>(
     while number < pages {
         match pair.append(disk, number, buf, 0) {
             Ok(()) => {
-                buf.fill(0);
+                wipe(buf);
                 number += 1;
             }
             Err(Failed) => return Err(Failed),
@@ -106,7 +114,7 @@ fn write_first<D: Disk>(disk: &mut D, buf: &mut [u8], pages: u32) -> Result<(), 
     while number <= pages {
         match write_page(disk, number, buf) {
             Ok(()) => {
-                buf.fill(0);
+                wipe(buf);
                 number += 1;
             }
             Err(Failed) => return Err(Failed),

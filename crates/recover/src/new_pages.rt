@@ -15,6 +15,7 @@
 ghost use Rattle.std.specs.Prelude.{◌≡◌, ◌≤◌, length};
 ghost use Rattle.recover.specs.NewPages.{new_count, new_first_page};
 
+use crate::founding::wipe;
 use crate::setup::StoreKind;
 
 /// How many bytes of page 1 aren't zero throughout.
@@ -44,7 +45,7 @@ pub(crate) fn lay_first_page(kind: StoreKind, to: &mut [u8])
     ensures { to.new ≡ new_first_page kind (length to.old) }
 {
     let page_size = to.len();
-    to.fill(0);
+    wipe(to);
     to[..FRONT_SIZE].copy_from_slice(FRONT);
     to[16] = (page_size / 256 % 256) as u8;
     to[17] = (page_size / 65536 % 256) as u8;
