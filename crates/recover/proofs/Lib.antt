@@ -4,3 +4,6 @@ mod Resets
 pub mod First
 mod FirstPages
 mod Committing
+mod Beginnings
+mod NewPages
+mod FoundsNew

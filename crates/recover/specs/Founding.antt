@@ -1,14 +1,15 @@
 -- The first commit of a new database, or of one whose versions aren't this program's.
-use Rattle.std.specs.Prelude.{◌≡◌, ◌≢◌, ℕ, ◌+◌, ◌<◌, ◌^◌, List, [], ◌∷◌, length, Option, IfSome}
+use Rattle.std.specs.Prelude.{◌≡◌, ◌≢◌, ℕ, ◌+◌, ◌≤◌, ◌<◌, ◌^◌, Bool, List, [], ◌∷◌, length, Option, None, IfSome}
+use Rattle.disk_face.specs.declared.disk.File.TheVariants.{Log1, Log2}
 use Rattle.disk_face.specs.Steps.{History, reads}
 use Rattle.page_spec.specs.PageMap.{PageMap}
 use Rattle.log_spec.specs.Accept.{Frame, page_number, page_of, last_size}
 use Rattle.crash_spec.specs.Opening.{Since}
-use Rattle.crash_spec.specs.Passes.{Passes}
+use Rattle.crash_spec.specs.Passes.{Passes, WhereDone}
 use Rattle.crash_spec.specs.Recovered.{overlaid}
 use Rattle.crash_spec.specs.Store.{named_size}
-use Rattle.opening_spec.specs.Found.{FoundLog, OpeningView}
-use Rattle.opening_spec.specs.States.{AreSynced, IsFounding, LeavesEither}
+use Rattle.opening_spec.specs.Found.{FoundLog, OpeningView, IsNextHeader, next_log}
+use Rattle.opening_spec.specs.States.{AreSynced, IsFounding, IsResetting, LeavesEither}
 use Rattle.log_pair.specs.Pair.{PairView, current_header}
 use Rattle.log_pair.specs.Appending.{LogStands}
 
@@ -67,3 +68,34 @@ CommitsPages pair page count size old new =
 -- A call of it failed.
 abbrev pub FailsToCommit : (pair : PairView) (page : ℕ → List ℕ) (count size : ℕ) → Option History → Option History → Type 0
 FailsToCommit pair page count size old new = Commits pair page count size (λ view map main one two told. Unit {0}) old new
+
+-- From the third state, where log 1 may get this header, whose salts are the next ones, log 2 has no frame, and Main has these bytes: what a
+-- crash leaves is the map before or the later one.
+abbrev pub Founds : (bytes : List ℕ) → Bool → (OpeningView → PageMap → List ℕ → FoundLog → FoundLog → History → Type 0) → Option History → Option History → Type 0
+Founds bytes ok Then old new =
+    (view : OpeningView) (later : PageMap) (main : List ℕ) (one two : FoundLog) → Since view.opening.start (IsResetting view Log1 one two None) old
+    → IsNextHeader Log1 one bytes → two.frames ≡ [] → 100 ≤ view.size → IfSome old (λ told. (reads told).main ≡ main)
+    → Passes view.opening (LeavesEither view later) (WhereDone ok (Then view later main (next_log one) two)) old new
+
+-- the same, where so many pages make the later map
+abbrev pub FoundsMap : (bytes : List ℕ) (page : ℕ → List ℕ) (count size : ℕ) → (OpeningView → PageMap → List ℕ → FoundLog → FoundLog → History → Type 0) → Option History → Option History → Type 0
+FoundsMap bytes page count size Then old new =
+    (view : OpeningView) (later : PageMap) (main : List ℕ) (one two : FoundLog) → MakesMap main view.size later page count size
+    → Since view.opening.start (IsResetting view Log1 one two None) old
+    → IsNextHeader Log1 one bytes → two.frames ≡ [] → 100 ≤ view.size → IfSome old (λ told. (reads told).main ≡ main)
+    → Passes view.opening (LeavesEither view later) (Then view later main (next_log one) two) old new
+
+-- The commit of so many pages was made.
+abbrev pub FoundsPages : (bytes : List ℕ) (page : ℕ → List ℕ) (count size : ℕ) → Option History → Option History → Type 0
+FoundsPages bytes page count size old new =
+    (frames : List Frame) × HoldFrom page 1 frames × (length frames ≡ count)
+    × FoundsMap bytes page count size (λ view map main one two. HasCommitted view map main one two frames) old new
+
+-- A call of it failed.
+abbrev pub FailsToFound : (bytes : List ℕ) (page : ℕ → List ℕ) (count size : ℕ) → Option History → Option History → Type 0
+FailsToFound bytes page count size old new = FoundsMap bytes page count size (λ view map main one two told. Unit {0}) old new
+
+-- The commit is in Main too: both logs may get their new headers, log 2 first.
+pub record HasFounded (view : OpeningView) (later : PageMap) (main : List ℕ) (one two : FoundLog) (told : History) : Type 0 where
+  pub frames : List Frame
+  pub resetting : IsResetting (later_view view later main) Log2 (with_first one frames) two None told

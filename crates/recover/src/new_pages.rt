@@ -45,8 +45,8 @@ pub(crate) fn lay_first_page(kind: StoreKind, to: &mut [u8])
     ensures { to.new ≡ new_first_page kind (length to.old) }
 {
     let page_size = to.len();
-    wipe(to);
     to[..FRONT_SIZE].copy_from_slice(FRONT);
+    wipe(&mut to[FRONT_SIZE..]);
     to[16] = (page_size / 256 % 256) as u8;
     to[17] = (page_size / 65536 % 256) as u8;
     match kind {
