@@ -40,7 +40,7 @@ module _ (view : OpeningView) (one two : FoundLog) (kind : StoreKind) (bytes fir
   founds_not fails = fails view later [] one two makes h next none big empty
 
   module _ (again : List ℕ) (pages : ℕ) (new : Option History) (again_is : again ≡ first) (pages_is : pages ≡ new_count kind) (made : FoundsPages bytes (first_then_zeros first) count size old mid) where
-    frames : List Frame
+    abbrev frames : List Frame
     frames = made.0
 
     committed : Passes view.opening (LeavesEither view later) (HasCommitted view later [] (next_log one) two frames) old mid

@@ -23,7 +23,7 @@ abbrev Spells : ℕ → Type 0
 Spells size = spelled_page_size (size / 256 % 256 * 2 ^ 8 + size / 65536 % 256) ≡ size
 
 pub spells : (size : ℕ) → is_page_size size ≡ true → Spells size
-unfolding is_page_size, spelled_page_size
+unfolding is_page_size spelled_page_size
 spells size is = elim (one_of (nat_eq size 512) _ is) [
   | inl at ↦ subst Spells (same size 512 at) refl
   | inr is ↦ elim (one_of (nat_eq size 1024) _ is) [
@@ -51,12 +51,12 @@ spells size is = elim (one_of (nat_eq size 512) _ is) [
 ]
 
 pub first_sized : (kind : StoreKind) (size : ℕ) → is_page_size size ≡ true → page_size_in (fields_of (new_first_page kind size)) ≡ size
-unfolding fields_of, new_first_page, u16_at
+unfolding fields_of new_first_page u16_at
 first_sized Pages size is = spells size is
 first_sized Tables size is = spells size is
 
 pub first_counts : (kind : StoreKind) (size long : ℕ) → pages_in (new_first_page kind size) long ≡ new_count kind
-unfolding fields_of, new_first_page, pages_in, u32_at
+unfolding fields_of new_first_page pages_in u32_at
 first_counts Pages size long = refl
 first_counts Tables size long = refl
 
