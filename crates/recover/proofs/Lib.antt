@@ -7,3 +7,4 @@ mod Committing
 mod Beginnings
 mod NewPages
 mod FoundsNew
+mod Readying

@@ -1,7 +1,8 @@
 -- A log's new header was written and synced, or one of both calls failed.
 use Rattle.std.proofs.lemmas.Bool.Decides.{nat_tests}
 use Rattle.recover.specs.Headers.{next_even}
-use Rattle.std.proofs.Common.{arith, ◌≤◌, ◌≡◌, ◌⊎◌, inl, inr, ℕ, ◌+◌, ◌%◌, ◌^◌, ◌<◌, Bool, true, false, List, Option, refl, sym, ◌∙◌, ap, subst}
+use Rattle.recover.specs.Seeing.{next_odd}
+use Rattle.std.proofs.Common.{arith, ◌≤◌, ◌≡◌, ◌⊎◌, inl, inr, ℕ, ◌+◌, ◌-◌, ◌%◌, ◌^◌, ◌<◌, Bool, true, false, List, Option, refl, sym, ◌∙◌, ap, subst}
 use Rattle.disk_face.specs.declared.disk.File.{File}
 use Rattle.disk_face.specs.Steps.{History}
 use Rattle.log_spec.specs.LogHeader.{LogFields, log_fields, is_generation, last_generation, IsOurs}
@@ -58,3 +59,8 @@ next_even_is newest room = grind (arith, nat_tests)
 pub next_odd_is : (newest : ℕ) → newest + 4 ≤ last_generation → is_generation 1 (next_even newest + 1) ≡ true
 unfolding is_generation
 next_odd_is newest room = grind (arith, nat_tests)
+
+-- and that of a first header of log 1
+pub first_odd_is : (newest : ℕ) → newest + 3 ≤ last_generation → is_generation 1 (next_odd newest) ≡ true
+unfolding is_generation
+first_odd_is newest room = grind (arith, nat_tests)

@@ -3,3 +3,4 @@ pub mod Headers
 pub mod Seeing
 pub mod NewPages
 pub mod Founding
+pub mod Ready

@@ -16,6 +16,8 @@ ghost use Rattle.crash_spec.specs.Passes.{Passes, WhereDone};
 ghost use Rattle.opening_spec.specs.Found.{FoundLog, OpeningView, IsNextHeader, found_log};
 ghost use Rattle.opening_spec.specs.States.{IsResetting, HasReset, IsSettled, LeavesMap, header1_of, header2_of};
 ghost use Rattle.recover.specs.Headers.{last_salt, generation_in, next_even, first_of};
+ghost use Rattle.recover.specs.Seeing.{next_odd};
+ghost use Rattle.wal_frames.specs.declared.header.Front.TheVariants.{Ours};
 
 use disk_face::{Disk, Failed, File, Salts};
 use log_pair::NewHeader;
@@ -30,6 +32,9 @@ pub(crate) struct NewHeaders {
     /// The other log, and its header.
     pub(crate) second: File,
     pub(crate) there: NewHeader,
+    /// What the headers of log 1 and of log 2 tell.
+    pub(crate) one: LogHeader,
+    pub(crate) two: LogHeader,
 }
 
 /// The first salt of a log's next header: one more than the last, from 1 on where the log has no header of ours.
@@ -82,7 +87,7 @@ fn generation_of(front: &Front) -> u32
 }
 
 /// The greatest generation of a header of ours, 0 where there is none.
-fn newest_generation(one: &Front, two: &Front) -> u32
+pub(crate) fn newest_generation(one: &Front, two: &Front) -> u32
     ensures { result ≡ max (generation_in one.now) (generation_in two.now) }
 {
     let first = generation_of(one);
@@ -101,6 +106,15 @@ fn even_generation(newest: u32) -> u32
     newest + 2 + newest % 2
 }
 
+/// The least odd generation from two more than this one on.
+pub(crate) fn odd_generation(newest: u32) -> u32
+    requires { newest + 3 ≤ last_generation }
+    ensures odd { IsTrue (is_generation 1 result) }
+    ensures least { result ≡ next_odd newest }
+{
+    newest + 3 - newest % 2
+}
+
 /// The headers that both logs get next, where log 1 begins with `one` and log 2 with `two`.
 ///
 /// Log 2 gets the least even generation from two more than the greatest one on, log 1 the one after it. The log of lower generation, or
@@ -117,6 +131,11 @@ pub(crate) fn next_headers<W: Salts>(
     ensures second { result.second ≡ other_of result.first }
     ensures next { (has1 has2 : FoundLog) → has1.salt ≡ last_salt one.now → has2.salt ≡ last_salt two.now → has1.most + 1 < 2 ^ 32 → has2.most + 1 < 2 ^ 32
         → IsNextHeader result.first (found_log result.first has1 has2) result.here.bytes × IsNextHeader (other_of result.first) (found_log (other_of result.first) has1 has2) result.there.bytes }
+    ensures one { fields_for result.one ≡ header1_of result.first (log_fields result.here.bytes) (log_fields result.there.bytes) }
+    ensures two { fields_for result.two ≡ header2_of result.first (log_fields result.here.bytes) (log_fields result.there.bytes) }
+    ensures legal { IsLegalFront 1 (Ours result.one) × IsLegalFront 2 (Ours result.two) }
+    ensures sizes { (result.one.page_size ≡ page_size) × (result.two.page_size ≡ page_size) }
+    ensures generations { result.one.generation ≡ result.two.generation + 1 }
     ensures loans { W.loans salts.new ≡ W.loans salts.old }
 {
     let even = even_generation(newest_generation(one, two));
@@ -125,8 +144,10 @@ pub(crate) fn next_headers<W: Salts>(
         let there = next_header(two, 2, page_size, even, salts.word());
         NewHeaders {
             first: File::Log1,
+            one: here.header,
             here,
             second: File::Log2,
+            two: there.header,
             there,
         }
     } else {
@@ -134,8 +155,10 @@ pub(crate) fn next_headers<W: Salts>(
         let there = next_header(one, 1, page_size, even + 1, salts.word());
         NewHeaders {
             first: File::Log2,
+            two: here.header,
             here,
             second: File::Log1,
+            one: there.header,
             there,
         }
     }

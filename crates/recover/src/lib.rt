@@ -4,6 +4,7 @@
 //! began, and which state the files are in then.
 #![tactic(auto)]
 
+mod begin;
 mod founding;
 mod header;
 mod new_pages;

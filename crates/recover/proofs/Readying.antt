@@ -1,0 +1,127 @@
+-- Both logs got their new headers: the files are ready for a store.
+use Rattle.std.proofs.Common.{◌≡◌, ℕ, ◌+◌, ◌%◌, ◌^◌, ◌≤◌, ◌<◌, Bool, true, false, if◌then◌else◌, inl, inr, List, [], length, take, max, Option, Some, None, refl, sym, ◌∙◌, ap, subst, arith}
+use Rattle.std.specs.Prelude.{IfSome, nat_lt}
+use Rattle.std.proofs.lemmas.Bool.Decides.{nat_tests}
+use Rattle.disk_face.specs.declared.disk.File.{File}
+use Rattle.disk_face.specs.declared.disk.File.TheVariants.{Log1, Log2}
+use Rattle.disk_face.specs.Files.{Files}
+use Rattle.disk_face.specs.Steps.{History, reads}
+use Rattle.page_spec.specs.Bytes.{u16_at, u32_at}
+use Rattle.page_spec.specs.Header.{fields_of, page_size_in, pages_in, spelled_page_size}
+use Rattle.page_spec.specs.PageMap.{PageMap}
+use Rattle.log_spec.specs.LogHeader.{LogFields, log_fields}
+use Rattle.log_spec.specs.Accept.{Frame}
+use Rattle.crash_spec.specs.Marks.{other_of}
+use Rattle.crash_spec.specs.Opening.{Since}
+use Rattle.crash_spec.specs.Passes.{Passes, WhereDone}
+use Rattle.crash_spec.specs.Recovered.{overlaid}
+use Rattle.crash_spec.proofs.Passing.{passes_join, passes_weaker}
+use Rattle.wal_frames.specs.Front.{fields_for}
+use Rattle.wal_frames.specs.declared.header.LogHeader.{LogHeader}
+use Rattle.wal_frames.specs.declared.header.Front.{Front}
+use Rattle.wal_frames.specs.declared.header.Front.TheVariants.{Ours}
+use Rattle.log_pair.specs.Pair.{PairView, new_pair}
+use Rattle.log_pair.proofs.Standing.{stands_sealed}
+use Rattle.opening_spec.specs.Found.{OpeningView, FoundLog, IsNextHeader, found_log, next_log}
+use Rattle.opening_spec.specs.States.{AreSynced, IsResetting, IsSettled, LeavesMap, LeavesOpening, LeavesEither, header1_of, header2_of}
+use Rattle.opening_spec.proofs.Settling.{bare_passes}
+use Rattle.recover.specs.Headers.{generation_in, last_salt, first_of}
+use Rattle.recover.specs.Seeing.{next_odd}
+use Rattle.recover.specs.Founding.{HasFounded, later_view, with_first}
+use Rattle.recover.specs.Ready.{IsReady, LeavesSettling, store_view}
+
+pub lift_opening : (view : OpeningView) (later : PageMap) (P : History → Type 0) (old new : Option History) → Passes view.opening (LeavesOpening view) P old new → Passes view.opening (LeavesSettling view later) P old new
+lift_opening view later P old new passes = passes_weaker view.opening (LeavesOpening view) (LeavesSettling view later) P P (λ told image leaves. images told image leaves) (λ told p. p) old new passes
+  where
+    images : (told : History) (image : Files) → LeavesOpening view told image → LeavesSettling view later told image
+    images told image (inl leaves) = inl (λ chance. (inl (leaves chance).0, (leaves chance).1))
+    images told image (inr rest) = inr rest
+
+pub settling_join : (view : OpeningView) (later : PageMap) (P Q : History → Type 0) (old mid new : Option History) → Passes view.opening (LeavesSettling view later) P old mid → Passes view.opening (LeavesEither view later) Q mid new
+    → Passes view.opening (LeavesSettling view later) Q old new
+settling_join view later P Q old mid new first second =
+    passes_join view.opening (LeavesSettling view later) P Q old mid new first
+    (passes_weaker view.opening (LeavesEither view later) (LeavesSettling view later) Q Q (λ told image leaves. inl leaves) (λ told q. q) mid new second)
+
+pub has_frames : (view : OpeningView) (later : PageMap) (main : List ℕ) (one two : FoundLog) (told : Option History) → Since view.opening.start (HasFounded view later main one two) told
+    → (frames : List Frame) × Since view.opening.start (IsResetting (later_view view later main) Log2 (with_first one frames) two None) told
+has_frames view later main one two None h = ([], tt)
+has_frames view later main one two (Some told) (since, grew, has) = (has.frames, (since, grew, has.resetting))
+
+as_store : (view : OpeningView) (later : PageMap) (main : List ℕ) (header older : LogFields) (told : History) → IsSettled (later_view view later main) header older told → IsSettled (store_view view later) header older told
+as_store view later main header older told s = record {
+  one = s.one;
+  two = s.two;
+  written = record {
+    log1 = s.written.log1;
+    log2 = s.written.log2;
+    whole1 = s.written.whole1;
+    whole2 = s.written.whole2;
+    main = s.written.main;
+    fits = s.written.fits;
+    is = s.written.is;
+    bare = s.written.bare;
+  };
+  log1 = record { on = s.log1.on; sure = s.log1.sure };
+  log2 = record { on = s.log2.on; sure = s.log2.sure };
+}
+
+-- both logs get their new headers, log 2 first
+abbrev pub ResetsBoth : Bool → (here there : List ℕ) → Option History → Option History → Type 0
+ResetsBoth ok here there old new =
+    (view : OpeningView) (one two : FoundLog) → Since view.opening.start (IsResetting view Log2 one two None) old
+    → IsNextHeader Log2 (found_log Log2 one two) here → IsNextHeader (other_of Log2) (found_log (other_of Log2) one two) there
+    → Passes view.opening (LeavesMap view) (WhereDone ok (IsSettled view (header1_of Log2 (log_fields here) (log_fields there)) (header2_of Log2 (log_fields here) (log_fields there)))) old new
+
+next_with : (has : FoundLog) (frames : List Frame) (bytes : List ℕ) → IsNextHeader Log1 has bytes → IsNextHeader Log1 (with_first has frames) bytes
+next_with has frames bytes next = record { is_log = tt; long = next.long; ours = next.ours; salt = next.salt; few = next.few }
+
+pub resets_later : (ok : Bool) (view : OpeningView) (later : PageMap) (main here there : List ℕ) (one two : FoundLog) (old new : Option History) → ResetsBoth ok here there old new
+    → Since view.opening.start (HasFounded view later main one two) old → IsNextHeader Log2 two here → IsNextHeader Log1 one there
+    → Passes view.opening (LeavesEither view later) (WhereDone ok (IsSettled (store_view view later) (log_fields there) (log_fields here))) old new
+resets_later ok view later main here there one two old new resets h next2 next1 =
+    let has = has_frames view later main one two old h in
+    passes_weaker view.opening (LeavesMap (later_view view later main)) (LeavesEither view later) (WhereDone ok (IsSettled (later_view view later main) (log_fields there) (log_fields here)))
+    (WhereDone ok (IsSettled (store_view view later) (log_fields there) (log_fields here)))
+    (λ told image leaves chance. (inr (leaves chance).0, (leaves chance).1)) (λ told s. state ok told s) old new
+    (resets (later_view view later main) (with_first one has.0) two has.1 next2 (next_with one has.0 there next1))
+  where
+    state : (ok : Bool) (told : History) → WhereDone ok (IsSettled (later_view view later main) (log_fields there) (log_fields here)) told → WhereDone ok (IsSettled (store_view view later) (log_fields there) (log_fields here)) told
+    state true told s = as_store view later main (log_fields there) (log_fields here) told s
+    state false told s = tt
+
+-- where no log has a frame
+pub bare_then : (view : OpeningView) (one two : FoundLog) (told : Option History) → one.frames ≡ [] → two.frames ≡ [] → Since view.opening.start (AreSynced view one two) told → Since view.opening.start (IsResetting view Log1 one two None) told
+bare_then view one two told none neither h = (bare_passes view Log1 one two told tt none neither h).holds
+
+-- nothing at all is no map
+nothing : overlaid [] [] [] ≡ []
+unfolding fields_of pages_in u16_at u32_at spelled_page_size
+nothing = refl
+
+-- a store may begin
+pub ready : (view : OpeningView) (later : PageMap) (one two : LogHeader) (pair : PairView) (header older : LogFields) (told : History) → pair ≡ new_pair 1 one two → fields_for one ≡ header → fields_for two ≡ older → 1 ≤ length later
+    → IsSettled (store_view view later) header older told → IsReady view later pair told
+ready view later one two pair header older told is first second some s =
+    subst (λ (p : PairView). IsReady view later p told) (sym is)
+    (by (subst (λ (h : LogFields). IsSettled (store_view view later) (fields_for one) h told) (sym second) (subst (λ (h : LogFields). IsSettled (store_view view later) h older told) (sym first) s)))
+  where
+    sized : {header older : LogFields} → IsSettled (store_view view later) header older told → page_size_in (fields_of (take 100 (reads told).main)) ≡ view.size
+    sized s = elim s.written.fits [
+      | inl empty ↦ absurd (let none = ap (λ (map : PageMap). length map) (sym s.written.bare ∙ ap (λ (bytes : List ℕ). overlaid bytes [] []) empty ∙ nothing) in omega (arith, none))
+      | inr (big, is) ↦ is
+    ]
+
+    by : IsSettled (store_view view later) (fields_for one) (fields_for two) told → IsReady view later (new_pair 1 one two) told
+    by s = record {
+      settled = s;
+      sized = sized s;
+      stands = stands_sealed view.opening (new_pair 1 one two) [] told s.log1.on refl refl refl;
+    }
+
+-- the first header of log 1 is newer than what log 2 has
+pub two_is_first : (one two : Front) (header : LogHeader) → header.generation ≡ next_odd (max (generation_in one) (generation_in two)) → first_of (Ours header) two ≡ Log2
+two_is_first one two header is = ap (λ (b : Bool). if b then Log1 else Log2) (below (generation_in one) (generation_in two) header.generation is)
+  where
+    below : (m n g : ℕ) → g ≡ next_odd (max m n) → nat_lt g n ≡ false
+    below m n g is = grind (arith, nat_tests)
