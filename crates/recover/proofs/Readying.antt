@@ -125,3 +125,33 @@ two_is_first one two header is = ap (λ (b : Bool). if b then Log1 else Log2) (b
   where
     below : (m n g : ℕ) → g ≡ next_odd (max m n) → nat_lt g n ≡ false
     below m n g is = grind (arith, nat_tests)
+
+pub new_ready : (view : OpeningView) (later : PageMap) (first : File) (one two : LogHeader) (pair : PairView) (here there : List ℕ) (old new : Option History) → first ≡ Log2 → pair ≡ new_pair 1 one two
+    → fields_for one ≡ header1_of first (log_fields here) (log_fields there) → fields_for two ≡ header2_of first (log_fields here) (log_fields there) → 1 ≤ length later
+    → Passes view.opening (LeavesSettling view later) (IsSettled (store_view view later) (log_fields there) (log_fields here)) old new → Passes view.opening (LeavesSettling view later) (IsReady view later pair) old new
+new_ready view later first one two pair here there old new at is fields1 fields2 some passes =
+    passes_weaker view.opening (LeavesSettling view later) (LeavesSettling view later) (IsSettled (store_view view later) (log_fields there) (log_fields here)) (IsReady view later pair) (λ told image leaves. leaves)
+    (λ told s. ready view later one two pair (log_fields there) (log_fields here) told is (fields1 ∙ ap (λ (f : File). header1_of f (log_fields here) (log_fields there)) at)
+    (fields2 ∙ ap (λ (f : File). header2_of f (log_fields here) (log_fields there)) at) some s) old new passes
+
+pub next_both : (first : File) (one two : FoundLog) (here there : List ℕ) → first ≡ Log2 → IsNextHeader first (found_log first one two) here × IsNextHeader (other_of first) (found_log (other_of first) one two) there
+    → IsNextHeader Log2 two here × IsNextHeader Log1 one there
+next_both first one two here there at next =
+    subst (λ (f : File). IsNextHeader f (found_log f one two) here × IsNextHeader (other_of f) (found_log (other_of f) one two) there) at next
+
+-- where the map stays
+pub same_ready : (view : OpeningView) (one two : LogHeader) (pair : PairView) (header older : LogFields) (old new : Option History) → pair ≡ new_pair 1 one two → fields_for one ≡ header → fields_for two ≡ older → 1 ≤ length view.map
+    → Passes view.opening (LeavesOpening view) (IsSettled view header older) old new → Passes view.opening (LeavesOpening view) (IsReady view view.map pair) old new
+same_ready view one two pair header older old new is fields1 fields2 some passes =
+    passes_weaker view.opening (LeavesOpening view) (LeavesOpening view) (IsSettled view header older) (IsReady view view.map pair) (λ told image leaves. leaves)
+    (λ told s. ready view view.map one two pair header older told is fields1 fields2 some s) old new passes
+
+-- the salt that log 1 has after its first header
+pub salt_then : (has : FoundLog) (header : LogHeader) (bytes : List ℕ) → IsNextHeader Log1 has bytes → log_fields bytes ≡ fields_for header → (next_log has).salt ≡ header.salt1 % 2 ^ 32
+salt_then has header bytes next fields = same (has.salt + 1) header.salt1 (sym next.salt ∙ ap (λ (f : LogFields). f.salt1) fields)
+  where
+    same : (n salt : ℕ) → n % 2 ^ 32 ≡ salt → n % 2 ^ 32 ≡ salt % 2 ^ 32
+    same n salt is = omega arith
+
+pub room_for : (has : FoundLog) (n : ℕ) → has.most ≡ n → n ≤ 1 → has.most + 1 < 2 ^ 32
+room_for has n is few = omega arith

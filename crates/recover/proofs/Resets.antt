@@ -30,17 +30,20 @@ header_passes false view log one two beside bytes next old new h (inr wrote) = h
 
 -- a header that was signed is a next one
 pub next_is : (log : ℕ) (has : FoundLog) (header : LogFields) (bytes : List ℕ) (last : ℕ) → (log ≡ 1) ⊎ (log ≡ 2) → IsHeaderOf log header bytes
-    → has.salt ≡ last → header.salt1 ≡ (last + 1) % 2 ^ 32 → has.most + 1 < 2 ^ 32 → IsNextHeader (log_file log) has bytes
+    → has.salt ≡ last % 2 ^ 32 → header.salt1 ≡ (last + 1) % 2 ^ 32 → has.most + 1 < 2 ^ 32 → IsNextHeader (log_file log) has bytes
 next_is log has header bytes last which is same salt few =
     let at = log_is log which in
     record {
       is_log = at.0;
       long = is.whole;
       ours = subst (λ (n : ℕ). IsOurs n bytes) (sym at.1) is.ours;
-      salt = ap (λ (fields : LogFields). fields.salt1) is.told ∙ salt ∙ ap (λ (n : ℕ). (n + 1) % 2 ^ 32) (sym same);
+      salt = ap (λ (fields : LogFields). fields.salt1) is.told ∙ salt ∙ rest last ∙ ap (λ (n : ℕ). (n + 1) % 2 ^ 32) (sym same);
       few = few;
     }
   where
+    rest : (n : ℕ) → (n + 1) % 2 ^ 32 ≡ (n % 2 ^ 32 + 1) % 2 ^ 32
+    rest n = omega arith
+
     log_is : (log : ℕ) → (log ≡ 1) ⊎ (log ≡ 2) → IsLog (log_file log) × (number_of (log_file log) ≡ log)
     log_is log (inl is) = subst (λ (n : ℕ). IsLog (log_file n) × (number_of (log_file n) ≡ n)) (sym is) (tt, refl)
     log_is log (inr is) = subst (λ (n : ℕ). IsLog (log_file n) × (number_of (log_file n) ≡ n)) (sym is) (tt, refl)

@@ -1,5 +1,5 @@
 // The writes of an opening, from the first sync to the last: for a database that is there, and for a new one.
-ghost use Rattle.std.specs.Prelude.{◌≡◌, ◌+◌, ◌≤◌, ◌<◌, true, false, is_ok, [], length, max, IfOk, IfSome, IsTrue};
+ghost use Rattle.std.specs.Prelude.{◌≡◌, ◌+◌, ◌%◌, ◌^◌, ◌≤◌, ◌<◌, true, false, is_ok, [], length, max, IfOk, IfSome, IsTrue};
 ghost use Rattle.disk_face.specs.Faults.{Counts};
 ghost use Rattle.disk_face.specs.Stays.{OnlyWrites};
 ghost use Rattle.disk_face.specs.Steps.{reads};
@@ -85,7 +85,7 @@ pub(crate) fn settle_new<D: Disk, W: Salts>(
     ensures pair { IfOk result (IsNewPair (length buf.old)) }
     ensures moments { (view : OpeningView) (has1 has2 : FoundLog) → Since view.opening.start (IsSyncing view has1 has2 []) (D.told disk.old) → length buf.old ≡ view.size
         → has1.frames ≡ [] → has2.frames ≡ [] → IfSome (D.told disk.old) (λ told. (reads told).main ≡ [])
-        → has1.salt ≡ last_salt one.now → has2.salt ≡ last_salt two.now → has1.most ≡ 0 → has2.most ≡ 0
+        → has1.salt ≡ last_salt one.now % 2 ^ 32 → has2.salt ≡ last_salt two.now % 2 ^ 32 → has1.most ≡ 0 → has2.most ≡ 0
         → Passes view.opening (LeavesSettling view (new_pages kind view.size)) (ReadyWith result view (new_pages kind view.size)) (D.told disk.old) (D.told disk.new) }
     ensures stays { OnlyWrites D.DiskTells disk.old disk.new }
     ensures faults { Counts (is_ok result) (D.faults disk.old) (D.faults disk.new) }
@@ -121,7 +121,7 @@ pub(crate) fn settle_ours<D: Disk, W: Salts>(
     ensures moments { (view : OpeningView) (has1 has2 : FoundLog) → Since view.opening.start (IsSyncing view has1 has2 []) (D.told disk.old) → length buf.old ≡ view.size
         → (some_frames ≡ false → (has1.frames ≡ []) × (has2.frames ≡ [])) → (some_frames ≡ true → IfSome (D.told disk.old) (λ told. AreSeen view has1 has2 places.now (reads told)))
         → IfSome (D.told disk.old) (λ told. IsFirst (reads told) (first_of one.now two.now) has1 has2) → 1 ≤ length view.map
-        → has1.salt ≡ last_salt one.now → has2.salt ≡ last_salt two.now → has1.most ≡ 0 → has2.most ≡ 0
+        → has1.salt ≡ last_salt one.now % 2 ^ 32 → has2.salt ≡ last_salt two.now % 2 ^ 32 → has1.most ≡ 0 → has2.most ≡ 0
         → Passes view.opening (LeavesOpening view) (ReadyWith result view view.map) (D.told disk.old) (D.told disk.new) }
     ensures stays { OnlyWrites D.DiskTells disk.old disk.new }
     ensures faults { Counts (is_ok result) (D.faults disk.old) (D.faults disk.new) }
