@@ -37,9 +37,10 @@ passes_with opening Leaves P Q F goes old new f passes = record { each_moment = 
     with_files (Some told) f (since, grew, p) = (since, grew, goes (rebased opening.start since) p (subst F (ap reads grew ∙ rebased_reads opening.start since) f))
 
 -- a log's header leaves Main
-main_still : (bytes main : List ℕ) (old new : Option History) → new ≡ after (Synced Log1) (after (Wrote (front_piece Log1 bytes)) old) → IfSome old (λ told. (reads told).main ≡ main) → IfSome new (λ told. (reads told).main ≡ main)
-main_still bytes main None new step is = subst (λ (told : Option History). IfSome told (λ told. (reads told).main ≡ main)) (sym step) tt
-main_still bytes main (Some told) new step is = subst (λ (told : Option History). IfSome told (λ told. (reads told).main ≡ main)) (sym step) is
+main_still : (bytes main : List ℕ) (size : ℕ) (old new : Option History) → new ≡ after (Synced Log1) (after (Wrote (front_piece Log1 bytes)) old) → IfSome old (λ told. ((reads told).main ≡ main) × (100 ≤ size))
+    → IfSome new (λ told. ((reads told).main ≡ main) × (100 ≤ size))
+main_still bytes main size None new step is = subst (λ (told : Option History). IfSome told (λ told. ((reads told).main ≡ main) × (100 ≤ size))) (sym step) tt
+main_still bytes main size (Some told) new step is = subst (λ (told : Option History). IfSome told (λ told. ((reads told).main ≡ main) × (100 ≤ size))) (sym step) is
 
 small_rest : (n : ℕ) → n % 2 ^ 32 < 2 ^ 32
 small_rest n = omega arith
@@ -58,14 +59,14 @@ begun view later main header other bytes one two told fields next none some has 
 
 pub begins_log : (ok : Bool) (header other : LogHeader) (bytes : List ℕ) (old new : Option History) → log_fields bytes ≡ fields_for header → WritesAndSyncs ok (front_piece Log1 bytes) old new
     → Founds bytes ok (λ view later main one two. IsCommitting view later main (new_pair 1 header other) one two []) old new
-begins_log true header other bytes old new fields steps view later main one two h next none some main_is =
+begins_log true header other bytes old new fields steps view later main one two h next none main_is =
     passes_weaker view.opening (LeavesMap view) (LeavesEither view later) (IsCommitting view later main (new_pair 1 header other) (next_log one) two []) (IsCommitting view later main (new_pair 1 header other) (next_log one) two [])
     (λ told image leaves chance. (inl (leaves chance).0, (leaves chance).1)) (λ told p. p) old new
     (passes_with view.opening (LeavesMap view) (HasReset view Log1 (log_fields bytes) one two None) (IsCommitting view later main (new_pair 1 header other) (next_log one) two [])
-    (λ files. files.main ≡ main) (λ told has same. begun view later main header other bytes one two told fields next none some has same) old new
-    (main_still bytes main old new steps main_is)
+    (λ files. (files.main ≡ main) × (100 ≤ view.size)) (λ told has same. begun view later main header other bytes one two told fields next none same.1 has same.0) old new
+    (main_still bytes main view.size old new steps main_is)
     (header_passes true view Log1 one two None bytes next old new h steps))
-begins_log false header other bytes old new fields steps view later main one two h next none some main_is =
+begins_log false header other bytes old new fields steps view later main one two h next none main_is =
     passes_weaker view.opening (LeavesMap view) (LeavesEither view later) (λ told. Unit {0}) (λ told. Unit {0}) (λ told image leaves chance. (inl (leaves chance).0, (leaves chance).1)) (λ told p. p) old new
     (header_passes false view Log1 one two None bytes next old new h steps)
 
@@ -85,16 +86,16 @@ founds_pages bytes pair fresh page count size old mid new is begins (frames, hol
   frames,
   hold,
   long,
-  λ view later main one two makes h next none some main_is.
-      let first = begins view later main one two h next none some main_is in
+  λ view later main one two makes h next none main_is.
+      let first = begins view later main one two h next none main_is in
       let second = subst (λ (p : PairView). Commits p page count size (λ view map main one two. HasCommitted view map main one two frames) mid new) is commits view later main (next_log one) two (λ k. makes) first.holds in
       passes_join view.opening (LeavesEither view later) (λ told. IsCommitting view later main fresh (next_log one) two [] told) (λ told. HasCommitted view later main (next_log one) two frames told) old mid new first second,
 )
 
 pub fails_founding : (bytes : List ℕ) (pair fresh : PairView) (page : ℕ → List ℕ) (count size : ℕ) (old mid new : Option History) → pair ≡ fresh
     → Founds bytes true (λ view later main one two. IsCommitting view later main fresh one two []) old mid → FailsToCommit pair page count size mid new → FailsToFound bytes page count size old new
-fails_founding bytes pair fresh page count size old mid new is begins fails view later main one two makes h next none some main_is =
-    let first = begins view later main one two h next none some main_is in
+fails_founding bytes pair fresh page count size old mid new is begins fails view later main one two makes h next none main_is =
+    let first = begins view later main one two h next none main_is in
     let second = subst (λ (p : PairView). FailsToCommit p page count size mid new) is fails view later main (next_log one) two (λ k. makes) first.holds in
     passes_join view.opening (LeavesEither view later) (λ told. IsCommitting view later main fresh (next_log one) two [] told) (λ told. Unit {0}) old mid new first second
 

@@ -64,7 +64,7 @@ hold_page page from (f ∷ fs) n below (is, bytes, hold) ge less = elim (cases_l
       )
 ]
 
-size_of : (frames : List Frame) (below : ℕ) → 1 ≤ length frames → size_after frames below ≡ last_size frames
+pub size_of : (frames : List Frame) (below : ℕ) → 1 ≤ length frames → size_after frames below ≡ last_size frames
 size_of [] below some = absurd (omega arith)
 size_of (f ∷ fs) below some = refl
 
@@ -84,7 +84,7 @@ makes_new main page_size page count some sized frames hold long ends =
     )
 
 -- and each is the page of the map that is to be written to Main
-either_page : (first : Bool) (one two : List Frame) (n : ℕ) (below : List ℕ) → two ≡ []
+pub either_page : (first : Bool) (one two : List Frame) (n : ℕ) (below : List ℕ) → two ≡ []
     → page_after_frames (if first then two else one) n (page_after_frames (if first then one else two) n below) ≡ page_after_frames one n below
 either_page true one two n below none = ap (λ (fs : List Frame). page_after_frames fs n (page_after_frames one n below)) none
 either_page false one two n below none = ap (λ (fs : List Frame). page_after_frames one n (page_after_frames fs n below)) none

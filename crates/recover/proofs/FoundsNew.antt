@@ -1,5 +1,5 @@
 -- A new database is founded: its pages are committed, and written to Main.
-use Rattle.std.proofs.Common.{◌≡◌, ℕ, ◌+◌, ◌≤◌, Bool, true, false, inr, List, [], length, Option, None, refl, sym, ◌∙◌, ap, subst, arith}
+use Rattle.std.proofs.Common.{◌≡◌, ℕ, ◌+◌, ◌≤◌, Bool, true, false, inr, List, [], length, Option, Some, None, refl, sym, ◌∙◌, ap, subst, arith}
 use Rattle.std.specs.Prelude.{IfSome}
 use Rattle.disk_face.specs.declared.disk.File.TheVariants.{Log1}
 use Rattle.disk_face.specs.Files.{Files}
@@ -24,6 +24,10 @@ LaysFirst ok first count old new =
     → two.frames ≡ [] → HoldFrom (first_then_zeros first) 1 one.frames → length one.frames ≡ count
     → Passes view.opening (LeavesMap view) (ByAnswer ok (IsLaidDown view one two (count + 1)) (AreSynced view one two)) old new
 
+pub both_now : (main : List ℕ) (size : ℕ) (told : Option History) → IfSome told (λ told. (reads told).main ≡ main) → 100 ≤ size → IfSome told (λ told. ((reads told).main ≡ main) × (100 ≤ size))
+both_now main size None is big = tt
+both_now main size (Some told) is big = (is, big)
+
 module _ (view : OpeningView) (one two : FoundLog) (kind : StoreKind) (bytes first : List ℕ) (count size : ℕ) (old mid : Option History) (sized : length first ≡ view.size) (legal : is_page_size view.size ≡ true)
     (first_is : first ≡ new_first_page kind view.size) (count_is : count ≡ new_count kind) (size_is : size ≡ new_count kind) (big : 100 ≤ view.size)
     (h : Since view.opening.start (IsResetting view Log1 one two None) old) (next : IsNextHeader Log1 one bytes) (none : two.frames ≡ []) (empty : IfSome old (λ told. (reads told).main ≡ [])) where
@@ -37,14 +41,14 @@ module _ (view : OpeningView) (one two : FoundLog) (kind : StoreKind) (bytes fir
       (subst (λ (bs : List ℕ). MakesMap [] view.size later (first_then_zeros bs) (new_count kind) (new_count kind)) (sym first_is) (makes_pages [] kind view.size legal)))
 
   pub founds_not : FailsToFound bytes (first_then_zeros first) count size old mid → Passes view.opening (LeavesEither view later) (λ told. Unit {0}) old mid
-  founds_not fails = fails view later [] one two makes h next none big empty
+  founds_not fails = fails view later [] one two makes h next none (both_now [] view.size old empty big)
 
   module _ (again : List ℕ) (pages : ℕ) (new : Option History) (again_is : again ≡ first) (pages_is : pages ≡ new_count kind) (made : FoundsPages bytes (first_then_zeros first) count size old mid) where
     abbrev frames : List Frame
     frames = made.0
 
     committed : Passes view.opening (LeavesEither view later) (HasCommitted view later [] (next_log one) two frames) old mid
-    committed = made.3 view later [] one two makes h next none big empty
+    committed = made.3 view later [] one two makes h next none (both_now [] view.size old empty big)
 
     lays : (ok : Bool) → LaysFirst ok again pages mid new
         → Passes view.opening (LeavesMap (later_view view later [])) (ByAnswer ok (IsLaidDown (later_view view later []) (with_first (next_log one) frames) two (pages + 1)) (AreSynced (later_view view later []) (with_first (next_log one) frames) two)) mid new

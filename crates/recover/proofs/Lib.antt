@@ -8,3 +8,4 @@ mod Beginnings
 mod NewPages
 mod FoundsNew
 mod Readying
+mod Migrating

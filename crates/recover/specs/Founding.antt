@@ -12,6 +12,7 @@ use Rattle.opening_spec.specs.Found.{FoundLog, OpeningView, IsNextHeader, next_l
 use Rattle.opening_spec.specs.States.{AreSynced, IsFounding, IsResetting, LeavesEither}
 use Rattle.log_pair.specs.Pair.{PairView, current_header}
 use Rattle.log_pair.specs.Appending.{LogStands}
+use Rattle.recover.specs.NewPages.{migrated}
 
 -- the frames hold these pages, one each, in rising order from this number on
 abbrev pub HoldFrom : (ℕ → List ℕ) → ℕ → List Frame → Type 0
@@ -74,7 +75,7 @@ FailsToCommit pair page count size old new = Commits pair page count size (λ vi
 abbrev pub Founds : (bytes : List ℕ) → Bool → (OpeningView → PageMap → List ℕ → FoundLog → FoundLog → History → Type 0) → Option History → Option History → Type 0
 Founds bytes ok Then old new =
     (view : OpeningView) (later : PageMap) (main : List ℕ) (one two : FoundLog) → Since view.opening.start (IsResetting view Log1 one two None) old
-    → IsNextHeader Log1 one bytes → two.frames ≡ [] → 100 ≤ view.size → IfSome old (λ told. (reads told).main ≡ main)
+    → IsNextHeader Log1 one bytes → two.frames ≡ [] → IfSome old (λ told. ((reads told).main ≡ main) × (100 ≤ view.size))
     → Passes view.opening (LeavesEither view later) (WhereDone ok (Then view later main (next_log one) two)) old new
 
 -- the same, where so many pages make the later map
@@ -82,7 +83,7 @@ abbrev pub FoundsMap : (bytes : List ℕ) (page : ℕ → List ℕ) (count size 
 FoundsMap bytes page count size Then old new =
     (view : OpeningView) (later : PageMap) (main : List ℕ) (one two : FoundLog) → MakesMap main view.size later page count size
     → Since view.opening.start (IsResetting view Log1 one two None) old
-    → IsNextHeader Log1 one bytes → two.frames ≡ [] → 100 ≤ view.size → IfSome old (λ told. (reads told).main ≡ main)
+    → IsNextHeader Log1 one bytes → two.frames ≡ [] → IfSome old (λ told. ((reads told).main ≡ main) × (100 ≤ view.size))
     → Passes view.opening (LeavesEither view later) (Then view later main (next_log one) two) old new
 
 -- The commit of so many pages was made.
@@ -99,3 +100,7 @@ FailsToFound bytes page count size old new = FoundsMap bytes page count size (λ
 pub record HasFounded (view : OpeningView) (later : PageMap) (main : List ℕ) (one two : FoundLog) (told : History) : Type 0 where
   pub frames : List Frame
   pub resetting : IsResetting (later_view view later main) Log2 (with_first one frames) two None told
+
+-- what is left of that for a database that was there, whatever Main holds
+abbrev pub HasMigrated : OpeningView → FoundLog → FoundLog → History → Type 0
+HasMigrated view one two told = (main : List ℕ) × HasFounded view (migrated view.map) main one two told

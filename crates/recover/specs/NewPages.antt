@@ -1,5 +1,5 @@
 -- The pages that a new database begins with, and page 1 with this program's versions.
-use Rattle.std.specs.Prelude.{ℕ, ◌-◌, ◌/◌, ◌%◌, ◌==◌, if◌then◌else◌, List, [], ◌∷◌, ◌++◌, length, take, drop, replicate}
+use Rattle.std.specs.Prelude.{ℕ, ◌-◌, ◌/◌, ◌%◌, ◌==◌, if◌then◌else◌, List, [], ◌∷◌, ◌++◌, length, replicate, slice_set}
 use Rattle.page_spec.specs.Header.{database_text}
 use Rattle.page_spec.specs.PageMap.{PageMap}
 use Rattle.crash_spec.specs.Recovered.{pages_from}
@@ -63,7 +63,7 @@ new_pages kind page_size = pages_from (first_then_zeros (new_first_page kind pag
 
 -- page 1 with the versions 3, 3, and nothing else changed
 abbrev pub with_versions : List ℕ → List ℕ
-with_versions page = take 18 page ++ 3 ∷ 3 ∷ drop 20 page
+with_versions page = slice_set (slice_set page 18 3) 19 3
 
 -- the map with that page 1
 abbrev pub migrated : PageMap → PageMap

@@ -17,8 +17,8 @@ ghost use Rattle.log_pair.specs.Pair.{current_header, written_frames, new_pair};
 ghost use Rattle.log_pair.specs.Appending.{IsReached};
 ghost use Rattle.opening_spec.specs.Found.{FoundLog, OpeningView, IsNextHeader, next_log};
 ghost use Rattle.opening_spec.specs.States.{AreSynced, IsWriting, IsLaidDown, IsResetting, LeavesMap, LeavesEither};
-ghost use Rattle.recover.specs.NewPages.{first_then_zeros, new_pages};
-ghost use Rattle.recover.specs.Founding.{HoldFrom, IsCommitting, AppendsPages, CommitsPages, FailsToCommit, Founds, FoundsPages, FailsToFound, HasFounded};
+ghost use Rattle.recover.specs.NewPages.{first_then_zeros, new_pages, with_versions, migrated};
+ghost use Rattle.recover.specs.Founding.{HoldFrom, IsCommitting, AppendsPages, CommitsPages, FailsToCommit, Founds, FoundsPages, FailsToFound, HasFounded, HasMigrated};
 
 use crate::new_pages::{lay_first_page, new_count};
 use crate::pages::{sync_main, write_page};
@@ -236,6 +236,54 @@ pub(crate) fn found_new<D: Disk>(
             lay_first_page(kind, buf);
             match lay_first(disk, buf, new_count(kind)) {
                 Ok(()) => Ok(()),
+                Err(Failed) => Err(Failed),
+            }
+        }
+        Err(Failed) => Err(Failed),
+    }
+}
+
+/// Gives page 1 this program's versions.
+fn set_versions(page: &mut [u8])
+    requires { 20 ≤ length page.old }
+    ensures { page.new ≡ with_versions page.old }
+{
+    page[18] = 3;
+    page[19] = 3;
+}
+
+/// Gives a database of `size` pages this program's versions: its page 1, of which all is in Main, is committed with them in log 1, behind
+/// this header, and written to Main. `other` is a header that log 2 may get.
+pub(crate) fn found_migrated<D: Disk>(
+    disk: &mut D,
+    size: u32,
+    header: &NewHeader,
+    other: LogHeader,
+    buf: &mut [u8],
+) -> Result<(), Failed>
+    requires attached { D.attached disk.old ≡ true }
+    requires one { IsLegalFront 1 (Ours header.now.header) }
+    requires two { IsLegalFront 2 (Ours other) }
+    requires same_size { other.page_size ≡ header.now.header.page_size }
+    requires fields { log_fields header.now.bytes ≡ fields_for header.now.header }
+    requires page_size { length buf.old ≡ header.now.header.page_size }
+    requires room { (108 ≤ length buf.old) × (length buf.old ≤ 65536) }
+    requires size { size ≢ 0 }
+    requires whole { IsInside (D.told disk.old) Main 0 (length buf.old) }
+    ensures moments { (view : OpeningView) (one two : FoundLog) → Since view.opening.start (IsResetting view Log1 one two None) (D.told disk.old) → IsNextHeader Log1 one header.now.bytes
+        → two.frames ≡ [] → length buf.old ≡ view.size → IfSome (D.told disk.old) (λ told. (length view.map ≡ size) × (size * view.size ≤ length (reads told).main))
+        → Passes view.opening (LeavesEither view (migrated view.map)) (WhereDone (is_ok result) (HasMigrated view (next_log one) two)) (D.told disk.old) (D.told disk.new) }
+    ensures stays { OnlyWrites D.DiskTells disk.old disk.new }
+    ensures faults { Counts (is_ok result) (D.faults disk.old) (D.faults disk.new) }
+{
+    match disk.read_at(File::Main, 0, buf) {
+        Ok(()) => {
+            set_versions(buf);
+            match commit_first(disk, header, other, buf, 1, size) {
+                Ok(()) => match lay_first(disk, buf, 1) {
+                    Ok(()) => Ok(()),
+                    Err(Failed) => Err(Failed),
+                },
                 Err(Failed) => Err(Failed),
             }
         }

@@ -1,5 +1,5 @@
-// What an opening writes of a database whose versions are this program's, from its first sync to its last.
-ghost use Rattle.std.specs.Prelude.{◌≡◌, ◌+◌, ◌≤◌, ◌<◌, true, false, is_ok, [], length, IfSome};
+// What an opening writes, from its first sync to its last.
+ghost use Rattle.std.specs.Prelude.{◌≡◌, ◌+◌, ◌≤◌, ◌<◌, true, false, is_ok, [], length, IfOk, IfErr, IfSome};
 ghost use Rattle.disk_face.specs.Faults.{Counts};
 ghost use Rattle.disk_face.specs.Stays.{OnlyWrites};
 ghost use Rattle.disk_face.specs.Steps.{reads};
@@ -10,12 +10,20 @@ ghost use Rattle.crash_spec.specs.Passes.{Passes, WhereDone};
 ghost use Rattle.opening_spec.specs.Found.{FoundLog, OpeningView, IsFirst, IsNextHeader, found_log};
 ghost use Rattle.opening_spec.specs.States.{IsSyncing, IsSettled, LeavesOpening, header1_of, header2_of};
 ghost use Rattle.recover.specs.Places.{FitPlaces, AreSeen};
+ghost use Rattle.recover.specs.Ready.{IsNewPair, IsViewOf, LeavesSettling, ReadyWith, first_map};
+ghost use Rattle.recover.specs.Seeing.{IsSeen, IsWholeSeen};
 
+use crate::begin::{settle_migrated, settle_new, settle_ours};
 use crate::header::{NewHeaders, reset_logs};
 use crate::pages::lay_down;
 use crate::place::Place;
+use crate::seen::Seen;
+use crate::setup::{Setup, StoreKind};
 use crate::sync::sync_logs;
-use disk_face::{Disk, Failed};
+use disk_face::{Disk, Failed, Salts};
+use log_pair::LogPair;
+use std::alloc::Global;
+use wal_frames::ScanFault;
 
 /// Has the logs reach the medium, writes what they hold to Main, and gives both their new headers.
 ///
@@ -57,5 +65,47 @@ pub(crate) fn settle_files<D: Disk>(
             Err(Failed) => Err(Failed),
         },
         Err(Failed) => Err(Failed),
+    }
+}
+
+// A buffer of so many bytes.
+fn page_buffer(alloc: Global, size: usize) -> Result<Vec<u8>, ScanFault>
+    ensures room { IfOk result (λ buf. length buf.items ≡ size) }
+    ensures cause { IfErr result (λ fault. fault ≡ ScanFault.Memory) }
+{
+    match vec![in alloc; 0; size] {
+        Ok(buf) => Ok(buf),
+        Err(_) => Err(ScanFault::Memory),
+    }
+}
+
+/// Does all writes of an opening, with a buffer of one page.
+fn settle_seen<D: Disk, W: Salts>(
+    disk: &mut D,
+    salts: &mut W,
+    seen: &Seen,
+    kind: StoreKind,
+    buf: &mut [u8],
+) -> Result<LogPair, Failed>
+    requires attached { D.attached disk.old ≡ true }
+    requires room { length buf.old ≡ seen.now.page_size }
+    requires whole { IsWholeSeen seen.now }
+    requires seen { IfSome (D.told disk.old) (λ told. IsSeen (length buf.old) (reads told) seen.now) }
+    requires named { seen.now.is_new ≡ false → seen.now.named ≡ length seen.now.places }
+    requires some { seen.now.is_new ≡ false → 1 ≤ length seen.now.places }
+    ensures pair { IfOk result (IsNewPair seen.now.page_size) }
+    ensures moments { (view : OpeningView) (one two : FoundLog) → Since view.opening.start (IsSyncing view one two []) (D.told disk.old)
+        → IfSome (D.told disk.old) (λ told. IsViewOf seen.now (reads told) view one two)
+        → Passes view.opening (LeavesSettling view (first_map kind seen.now view.size view.map)) (ReadyWith result view (first_map kind seen.now view.size view.map)) (D.told disk.old) (D.told disk.new) }
+    ensures stays { OnlyWrites D.DiskTells disk.old disk.new }
+    ensures faults { Counts (is_ok result) (D.faults disk.old) (D.faults disk.new) }
+    ensures loans { W.loans salts.new ≡ W.loans salts.old }
+{
+    if seen.is_new {
+        settle_new(disk, salts, kind, &seen.one, &seen.two, buf)
+    } else if seen.is_ours {
+        settle_ours(disk, salts, &seen.one, &seen.two, &seen.places, seen.some_frames, buf)
+    } else {
+        settle_migrated(disk, salts, &seen.one, &seen.two, &seen.places, seen.some_frames, buf)
     }
 }

@@ -12,4 +12,4 @@ returns-in-Err-commit_pages-clause-fails g c =
     fails_founding c.args.header.now.bytes _ (new_pair 1 c.args.header.now.header c.args.other) (first_then_zeros c.args.buf.now) c.args.pages c.args.size _ _ _ c.in-Ok.ensures.pair c.in-Ok.ensures.moments c.in-Err-commit_pages.ensures.fails
 
 pub returns-in-Err-clause-fails : goal.returns-in-Err-clause-fails
-returns-in-Err-clause-fails g c view later main one two makes h next none some main_is = c.in-Err.ensures.moments view later main one two h next none some main_is
+returns-in-Err-clause-fails g c view later main one two makes h next none main_is = c.in-Err.ensures.moments view later main one two h next none main_is
