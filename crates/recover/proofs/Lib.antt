@@ -9,3 +9,4 @@ mod NewPages
 mod FoundsNew
 mod Readying
 mod Migrating
+mod SeenFiles

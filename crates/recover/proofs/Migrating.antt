@@ -32,9 +32,6 @@ use Rattle.recover.proofs.FoundsNew.{LaysFirst}
 byte_still : (page : List ℕ) (k : ℕ) → k ≢ 18 → k ≢ 19 → slice_index (with_versions page) k ≡ slice_index page k
 byte_still page k one two = get_or-set_other _ 19 k 3 0 two ∙ get_or-set_other page 18 k 3 0 one
 
-apart : (m n : ℕ) → (m == n) ≡ false → m ≢ n
-apart m n is = λ same. grind (arith, nat_tests)
-
 u16_still : (page : List ℕ) (at : ℕ) → at ≢ 18 → at ≢ 19 → at + 1 ≢ 18 → at + 1 ≢ 19 → u16_at (with_versions page) at ≡ u16_at page at
 unfolding u16_at
 u16_still page at a b c d = rw (byte_still page at a b, byte_still page (at + 1) c d) refl
@@ -63,7 +60,7 @@ pages_still page n =
       u32_still page 92 (omega arith),
     ) refl
 
-pages_of_fields : (a b : List ℕ) (n : ℕ) → fields_of a ≡ fields_of b → pages_in a n ≡ pages_in b n
+pub pages_of_fields : (a b : List ℕ) (n : ℕ) → fields_of a ≡ fields_of b → pages_in a n ≡ pages_in b n
 unfolding pages_in
 pages_of_fields a b n is = rw is refl
 
@@ -86,7 +83,7 @@ above_hold page from n (f ∷ fs) below (is, bytes, hold) far =
     ap (λ (b : Bool). page_after_frames fs n (if b then page_of f else below)) (ap (λ (k : ℕ). k == n) is ∙ lower_number from n (omega arith))
     ∙ above_hold page (from + 1) n fs below hold (omega arith)
 
-length_from : (page : ℕ → List ℕ) (number count : ℕ) → length (pages_from page number count) ≡ count
+pub length_from : (page : ℕ → List ℕ) (number count : ℕ) → length (pages_from page number count) ≡ count
 length_from page number zero = refl
 length_from page number (suc count) = omega (arith, length_from page (number + 1) count)
 

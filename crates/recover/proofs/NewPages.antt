@@ -12,7 +12,7 @@ use Rattle.recover.specs.NewPages.{new_count, new_first_page, new_pages, first_t
 use Rattle.recover.specs.Founding.{MakesMap}
 use Rattle.recover.proofs.FirstPages.{makes_new}
 
-one_of : (a b : Bool) → (a || b) ≡ true → (a ≡ true) ⊎ (b ≡ true)
+pub one_of : (a b : Bool) → (a || b) ≡ true → (a ≡ true) ⊎ (b ≡ true)
 one_of true b is = inl refl
 one_of false b is = inr is
 

@@ -1,9 +1,10 @@
 -- Both logs got their new headers: the files are ready for a store.
-use Rattle.std.proofs.Common.{◌≡◌, ℕ, ◌+◌, ◌%◌, ◌^◌, ◌≤◌, ◌<◌, Bool, true, false, if◌then◌else◌, inl, inr, List, [], length, take, max, Option, Some, None, refl, sym, ◌∙◌, ap, subst, arith}
+use Rattle.std.proofs.Common.{◌≡◌, ℕ, ◌+◌, ◌*◌, ◌%◌, ◌^◌, ◌≤◌, ◌<◌, Bool, true, false, if◌then◌else◌, inl, inr, List, [], ◌∷◌, length, take, max, Option, Some, None, refl, sym, ◌∙◌, ap, subst, arith}
 use Rattle.std.specs.Prelude.{IfSome, nat_lt}
 use Rattle.std.proofs.lemmas.Bool.Decides.{nat_tests}
 use Rattle.disk_face.specs.declared.disk.File.{File}
-use Rattle.disk_face.specs.declared.disk.File.TheVariants.{Log1, Log2}
+use Rattle.disk_face.specs.declared.disk.File.TheVariants.{Main, Log1, Log2}
+use Rattle.disk_face.specs.Told.{IsInside}
 use Rattle.disk_face.specs.Files.{Files}
 use Rattle.disk_face.specs.Steps.{History, reads}
 use Rattle.page_spec.specs.Bytes.{u16_at, u32_at}
@@ -11,8 +12,8 @@ use Rattle.page_spec.specs.Header.{fields_of, page_size_in, pages_in, spelled_pa
 use Rattle.page_spec.specs.PageMap.{PageMap}
 use Rattle.log_spec.specs.LogHeader.{LogFields, log_fields}
 use Rattle.log_spec.specs.Accept.{Frame}
-use Rattle.crash_spec.specs.Marks.{other_of}
-use Rattle.crash_spec.specs.Opening.{Since}
+use Rattle.crash_spec.specs.Marks.{IsLog, other_of}
+use Rattle.crash_spec.specs.Opening.{Opening, Since}
 use Rattle.crash_spec.specs.Passes.{Passes, WhereDone}
 use Rattle.crash_spec.specs.Recovered.{overlaid}
 use Rattle.crash_spec.proofs.Passing.{passes_join, passes_weaker}
@@ -22,12 +23,16 @@ use Rattle.wal_frames.specs.declared.header.Front.{Front}
 use Rattle.wal_frames.specs.declared.header.Front.TheVariants.{Ours}
 use Rattle.log_pair.specs.Pair.{PairView, new_pair}
 use Rattle.log_pair.proofs.Standing.{stands_sealed}
-use Rattle.opening_spec.specs.Found.{OpeningView, FoundLog, IsNextHeader, found_log, next_log}
-use Rattle.opening_spec.specs.States.{AreSynced, IsResetting, IsSettled, LeavesMap, LeavesOpening, LeavesEither, header1_of, header2_of}
+use Rattle.opening_spec.specs.Found.{OpeningView, FoundLog, IsFirst, IsNextHeader, found_log, next_log}
+use Rattle.opening_spec.specs.States.{IsSyncing, AreSynced, IsResetting, IsSettled, LeavesMap, LeavesOpening, LeavesEither, header1_of, header2_of}
 use Rattle.opening_spec.proofs.Settling.{bare_passes}
+use Rattle.opening_spec.proofs.Syncing.{sync_still}
 use Rattle.recover.specs.Headers.{generation_in, last_salt, first_of}
 use Rattle.recover.specs.Seeing.{next_odd}
-use Rattle.recover.specs.Founding.{HasFounded, later_view, with_first}
+use Rattle.recover.specs.Founding.{HasFounded, HasMigrated, later_view, with_first}
+use Rattle.recover.specs.NewPages.{migrated}
+use Rattle.recover.specs.Places.{AreSeen}
+use Rattle.recover.specs.declared.place.Place.{Place}
 use Rattle.recover.specs.Ready.{IsReady, LeavesSettling, store_view}
 
 pub lift_opening : (view : OpeningView) (later : PageMap) (P : History → Type 0) (old new : Option History) → Passes view.opening (LeavesOpening view) P old new → Passes view.opening (LeavesSettling view later) P old new
@@ -155,3 +160,62 @@ salt_then has header bytes next fields = same (has.salt + 1) header.salt1 (sym n
 
 pub room_for : (has : FoundLog) (n : ℕ) → has.most ≡ n → n ≤ 1 → has.most + 1 < 2 ^ 32
 room_for has n is few = omega arith
+
+-- one of both logs may be begun anew first
+pub first_found : (one two : FoundLog) (told : Option History) → (first : File) × IsLog first × IfSome told (λ told. IsFirst (reads told) first one two)
+first_found one two None = (Log1, tt, tt)
+first_found one two (Some told) = by (nat_lt (log_fields (reads told).log1).generation (log_fields (reads told).log2).generation) refl
+  where
+    by : (below : Bool) → nat_lt (log_fields (reads told).log1).generation (log_fields (reads told).log2).generation ≡ below → (first : File) × IsLog first × IsFirst (reads told) first one two
+    by true is = (Log1, tt, record { is_log = tt; below = inr (sym (ap (λ (b : Bool). if b then two.frames else one.frames) is)) })
+    by false is = (Log2, tt, record { is_log = tt; below = inr (sym (ap (λ (b : Bool). if b then two.frames else one.frames) is)) })
+
+-- where log 2 has no frame, log 1 may be the first
+pub log1_resets : (view : OpeningView) (later : PageMap) (first : File) (one two : FoundLog) (old new : Option History) → two.frames ≡ [] → Passes view.opening (LeavesMap view) (IsResetting view first one two None) old new
+    → Passes view.opening (LeavesEither view later) (IsResetting view Log1 one two None) old new
+log1_resets view later first one two old new none passes =
+    passes_weaker view.opening (LeavesMap view) (LeavesEither view later) (IsResetting view first one two None) (IsResetting view Log1 one two None) (λ told image leaves chance. (inl (leaves chance).0, (leaves chance).1))
+    (λ told r. record { written = r.written; may = ap (λ (fs : List Frame). overlaid (reads told).main [] fs) none ∙ r.written.bare; other = tt }) old new passes
+
+pub map_not : (view : OpeningView) (later : PageMap) (P : History → Type 0) (old new : Option History) → Passes view.opening (LeavesMap view) P old new → Passes view.opening (LeavesEither view later) (λ told. Unit {0}) old new
+map_not view later P old new passes =
+    passes_weaker view.opening (LeavesMap view) (LeavesEither view later) P (λ told. Unit {0}) (λ told image leaves chance. (inl (leaves chance).0, (leaves chance).1)) (λ told p. tt) old new passes
+
+-- what doesn't go by the files is said still
+pub said_on : (X : Type 0) (opening : Opening) (Leaves : History → Files → Type 0) (P : History → Type 0) (old new : Option History) → Passes opening Leaves P old new → IfSome old (λ told. X) → IfSome new (λ told. X)
+said_on X opening Leaves P None None passes x = tt
+said_on X opening Leaves P None (Some new) passes x = absurd passes.each_moment
+said_on X opening Leaves P (Some old) None passes x = tt
+said_on X opening Leaves P (Some old) (Some new) passes x = x
+
+pub counted_now : (view : OpeningView) (one two : FoundLog) (places : List Place) (told : Option History) → IfSome told (λ told. AreSeen view one two places (reads told)) → IfSome told (λ told. length view.map ≡ length places)
+counted_now view one two places None seen = tt
+counted_now view one two places (Some told) seen = sym seen.count
+
+pub both_known : (view : OpeningView) (n size : ℕ) (told : Option History) → size ≡ view.size → IfSome told (λ told. length view.map ≡ n) → IsInside told Main (n * size) 0
+    → IfSome told (λ told. (length view.map ≡ n) × (n * view.size ≤ length (reads told).main))
+both_known view n size None sized counts inside = tt
+both_known view n size (Some told) sized counts inside = (counts, let same : n * view.size ≡ n * size = ap (λ (k : ℕ). n * k) (sym sized) in omega arith)
+
+-- the whole state of a migrated database
+pub resets_migrated : (ok : Bool) (view : OpeningView) (here there : List ℕ) (one two : FoundLog) (old new : Option History) → ResetsBoth ok here there old new
+    → Since view.opening.start (HasMigrated view one two) old → IsNextHeader Log2 two here → IsNextHeader Log1 one there
+    → Passes view.opening (LeavesEither view (migrated view.map)) (WhereDone ok (IsSettled (store_view view (migrated view.map)) (log_fields there) (log_fields here))) old new
+resets_migrated ok view here there one two old new resets h next2 next1 =
+    let has = on_main old h in
+    resets_later ok view (migrated view.map) has.0 here there one two old new resets has.1 next2 next1
+  where
+    on_main : (told : Option History) → Since view.opening.start (HasMigrated view one two) told → (main : List ℕ) × Since view.opening.start (HasFounded view (migrated view.map) main one two) told
+    on_main None h = ([], tt)
+    on_main (Some told) (since, grew, has) = (has.0, (since, grew, has.1))
+
+pub migrated_some : (map : PageMap) → 1 ≤ length map → 1 ≤ length (migrated map)
+migrated_some [] some = absurd (omega arith)
+migrated_some (page ∷ rest) some = omega arith
+
+-- nothing was done
+pub nothing_done : (view : OpeningView) (later : PageMap) (P : History → Type 0) (one two : FoundLog) → ((told : History) → P told) → (old : Option History) → Since view.opening.start (IsSyncing view one two []) old
+    → Passes view.opening (LeavesSettling view later) P old old
+nothing_done view later P one two all old h =
+    passes_weaker view.opening (LeavesSettling view later) (LeavesSettling view later) (IsSyncing view one two []) P (λ told image leaves. leaves) (λ told s. all told) old old
+    (lift_opening view later (IsSyncing view one two []) old old (sync_still view one two [] old h))

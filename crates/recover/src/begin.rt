@@ -25,7 +25,7 @@ use crate::header::{
 };
 use crate::pages::lay_down;
 use crate::place::Place;
-use crate::settle::settle_files;
+use crate::settling::settle_files;
 use crate::setup::StoreKind;
 use crate::sync::sync_logs;
 use disk_face::{Disk, Failed, File, Salts};

@@ -11,9 +11,10 @@ mod new_pages;
 mod pages;
 mod place;
 mod seen;
-mod settle;
+mod settling;
 mod setup;
 mod sync;
 
 pub use seen::{LookFault, Seen};
+pub use settling::settle;
 pub use setup::{Setup, StoreKind};

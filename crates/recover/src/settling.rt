@@ -1,9 +1,11 @@
 // What an opening writes, from its first sync to its last.
-ghost use Rattle.std.specs.Prelude.{◌≡◌, ◌+◌, ◌≤◌, ◌<◌, true, false, is_ok, [], length, IfOk, IfErr, IfSome};
+ghost use Rattle.std.specs.Prelude.{◌≡◌, ◌+◌, ◌≤◌, ◌<◌, true, false, is_ok, [], length, Err, IfOk, IfErr, IfSome, IsTrue};
 ghost use Rattle.disk_face.specs.Faults.{Counts};
 ghost use Rattle.disk_face.specs.Stays.{OnlyWrites};
 ghost use Rattle.disk_face.specs.Steps.{reads};
+ghost use Rattle.page_spec.specs.Header.{is_page_size};
 ghost use Rattle.log_spec.specs.LogHeader.{log_fields};
+ghost use Rattle.wal_frames.specs.Found.{is_disk_well};
 ghost use Rattle.crash_spec.specs.Marks.{IsLog, other_of};
 ghost use Rattle.crash_spec.specs.Opening.{Since};
 ghost use Rattle.crash_spec.specs.Passes.{Passes, WhereDone};
@@ -107,5 +109,44 @@ fn settle_seen<D: Disk, W: Salts>(
         settle_ours(disk, salts, &seen.one, &seen.two, &seen.places, seen.some_frames, buf)
     } else {
         settle_migrated(disk, salts, &seen.one, &seen.two, &seen.places, seen.some_frames, buf)
+    }
+}
+
+/// Does all writes of an opening, after which a store may begin: the logs and what they hold reach the medium; a new database gets its
+/// pages, and one whose versions aren't this program's gets these; and both logs get new headers. Log 1 is the current one then, and
+/// neither log has a frame.
+///
+/// It needs what was seen of this disk as it is, the same setup, and that page 1 names the recovered size. Memory is taken before the
+/// first write, for one page; after `Memory` the disk is as before. After `Disk` the count of faults rose, and the files are somewhere on
+/// the way.
+pub fn settle<D: Disk, W: Salts>(
+    alloc: Global,
+    disk: &mut D,
+    salts: &mut W,
+    seen: Seen,
+    setup: &Setup,
+) -> Result<LogPair, ScanFault>
+    requires attached { D.attached disk.old ≡ true }
+    requires page_size { IsTrue (is_page_size setup.now.page_size) }
+    requires whole { IsWholeSeen seen }
+    requires new_size { seen.is_new ≡ true → seen.page_size ≡ setup.now.page_size }
+    requires seen { IfSome (D.told disk.old) (λ told. IsSeen setup.now.page_size (reads told) seen) }
+    requires named { seen.is_new ≡ false → seen.named ≡ length seen.places }
+    requires some { seen.is_new ≡ false → 1 ≤ length seen.places }
+    ensures pair { IfOk result (IsNewPair seen.page_size) }
+    ensures moments { (view : OpeningView) (one two : FoundLog) → Since view.opening.start (IsSyncing view one two []) (D.told disk.old)
+        → IfSome (D.told disk.old) (λ told. IsViewOf seen (reads told) view one two)
+        → Passes view.opening (LeavesSettling view (first_map setup.now.kind seen view.size view.map)) (ReadyWith result view (first_map setup.now.kind seen view.size view.map)) (D.told disk.old) (D.told disk.new) }
+    ensures memory { result ≡ Err ScanFault.Memory → D.told disk.new ≡ D.told disk.old }
+    ensures stays { OnlyWrites D.DiskTells disk.old disk.new }
+    ensures faults { Counts (is_disk_well result) (D.faults disk.old) (D.faults disk.new) }
+    ensures loans { W.loans salts.new ≡ W.loans salts.old }
+{
+    match page_buffer(alloc, seen.page_size as usize) {
+        Ok(mut buf) => match settle_seen(disk, salts, &seen, setup.kind, &mut buf) {
+            Ok(pair) => Ok(pair),
+            Err(Failed) => Err(ScanFault::Disk),
+        },
+        Err(fault) => Err(fault),
     }
 }
