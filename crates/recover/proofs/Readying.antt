@@ -1,5 +1,5 @@
 -- Both logs got their new headers: the files are ready for a store.
-use Rattle.std.proofs.Common.{◌≡◌, ℕ, ◌+◌, ◌*◌, ◌%◌, ◌^◌, ◌≤◌, ◌<◌, Bool, true, false, if◌then◌else◌, inl, inr, List, [], ◌∷◌, length, take, max, Option, Some, None, refl, sym, ◌∙◌, ap, subst, arith}
+use Rattle.std.proofs.Common.{◌≡◌, ℕ, zero, suc, ◌+◌, ◌*◌, ◌%◌, ◌^◌, ◌≤◌, ◌<◌, Bool, true, false, if◌then◌else◌, inl, inr, List, [], ◌∷◌, length, take, max, Option, Some, None, refl, sym, ◌∙◌, ap, subst, arith}
 use Rattle.std.specs.Prelude.{IfSome, nat_lt}
 use Rattle.std.proofs.lemmas.Bool.Decides.{nat_tests}
 use Rattle.disk_face.specs.declared.disk.File.{File}
@@ -192,10 +192,23 @@ pub counted_now : (view : OpeningView) (one two : FoundLog) (places : List Place
 counted_now view one two places None seen = tt
 counted_now view one two places (Some told) seen = sym seen.count
 
-pub both_known : (view : OpeningView) (n size : ℕ) (told : Option History) → size ≡ view.size → IfSome told (λ told. length view.map ≡ n) → IsInside told Main (n * size) 0
-    → IfSome told (λ told. (length view.map ≡ n) × (n * view.size ≤ length (reads told).main))
-both_known view n size None sized counts inside = tt
-both_known view n size (Some told) sized counts inside = (counts, let same : n * view.size ≡ n * size = ap (λ (k : ℕ). n * k) (sym sized) in omega arith)
+pub some_now : (view : OpeningView) (one two : FoundLog) (places : List Place) (told : Option History) → IfSome told (λ told. AreSeen view one two places (reads told)) → IfSome told (λ told. 1 ≤ length view.map)
+some_now view one two places None seen = tt
+some_now view one two places (Some told) seen = seen.some
+
+pub both_known : (view : OpeningView) (n size count : ℕ) (told : Option History) → size ≡ view.size → count ≡ max n 1 → IfSome told (λ told. length view.map ≡ n) → IfSome told (λ told. 1 ≤ length view.map) → IsInside told Main (n * size) 0
+    → IfSome told (λ told. (length view.map ≡ count) × (count * view.size ≤ length (reads told).main))
+both_known view n size count None sized is counts some inside = tt
+both_known view n size count (Some told) sized is counts some inside =
+    let all : count ≡ n = omega (arith, is, counts, some) in
+    let same : count * view.size ≡ n * size = ap (λ (k : ℕ). k * view.size) all ∙ ap (λ (k : ℕ). n * k) (sym sized) in
+    (counts ∙ sym all, omega (arith, same))
+
+-- Main has page 1
+pub whole_first : (n size : ℕ) (told : Option History) → IfSome told (λ told. 1 ≤ n) → IsInside told Main (n * size) 0 → IsInside told Main 0 size
+whole_first n size None some inside = tt
+whole_first zero size (Some told) some inside = absurd (omega arith)
+whole_first (suc n) size (Some told) some inside = let more : suc n * size ≡ size + n * size = grind arith in omega arith
 
 -- the whole state of a migrated database
 pub resets_migrated : (ok : Bool) (view : OpeningView) (here there : List ℕ) (one two : FoundLog) (old new : Option History) → ResetsBoth ok here there old new

@@ -369,3 +369,7 @@ module _ (kind : StoreKind) (new_size size : ℕ) (seen : SeenView) (whole : IsW
           has has.some
           (ap (λ (has : FoundLog). has.salt) of.has_one ∙ salt1 new_size (reads told) seen s) (ap (λ (has : FoundLog). has.salt) of.has_two ∙ salt2 new_size (reads told) seen s)
           (ap (λ (has : FoundLog). has.most) of.has_one) (ap (λ (has : FoundLog). has.most) of.has_two)
+
+pub some_told : (new_size : ℕ) (seen : SeenView) (told : Option History) → seen.is_new ≡ false → IfSome told (λ told. IsSeen new_size (reads told) seen) → IfSome told (λ told. 1 ≤ length seen.places)
+some_told new_size seen None there s = tt
+some_told new_size seen (Some told) there s = s.some_page there

@@ -155,7 +155,8 @@ fn begin_migrated<D: Disk>(
     requires fields { log_fields header.now.bytes ≡ fields_for header.now.header }
     requires page_size { length buf.old ≡ header.now.header.page_size }
     requires room { (108 ≤ length buf.old) × (length buf.old ≤ 65536) }
-    requires few { (1 ≤ length places.now) × (length places.now < 4294967295) }
+    requires few { length places.now < 4294967295 }
+    requires some { IfSome (D.told disk.old) (λ told. 1 ≤ length places.now) }
     requires fits { IfSome (D.told disk.old) (λ told. FitPlaces (reads told) (length buf.old) places.now) }
     requires whole { some_frames ≡ false → IsInside (D.told disk.old) Main (length places.now * length buf.old) 0 }
     ensures moments { (view : OpeningView) (one two : FoundLog) → Since view.opening.start (IsSyncing view one two []) (D.told disk.old) → length buf.old ≡ view.size
@@ -168,7 +169,9 @@ fn begin_migrated<D: Disk>(
     match sync_logs(disk) {
         Ok(()) => match lay_down(disk, places, some_frames, buf) {
             Ok(()) => {
-                match found_migrated(disk, places.len() as u32, header, headers.two, buf) {
+                // A database that is there has page 1.
+                let size = (places.len() as u32).max(1);
+                match found_migrated(disk, size, header, headers.two, buf) {
                     Ok(()) => {
                         match reset_logs(
                             disk,
@@ -204,7 +207,8 @@ pub(crate) fn settle_migrated<D: Disk, W: Salts>(
     requires page_size { IsTrue (is_page_size (length buf.old)) }
     requires size { (512 ≤ length buf.old) × (length buf.old ≤ 65536) }
     requires generations { next_odd (max (generation_in one.now) (generation_in two.now)) + 4 ≤ last_generation }
-    requires few { (1 ≤ length places.now) × (length places.now < 4294967295) }
+    requires few { length places.now < 4294967295 }
+    requires some { IfSome (D.told disk.old) (λ told. 1 ≤ length places.now) }
     requires fits { IfSome (D.told disk.old) (λ told. FitPlaces (reads told) (length buf.old) places.now) }
     requires whole { some_frames ≡ false → IsInside (D.told disk.old) Main (length places.now * length buf.old) 0 }
     ensures pair { IfOk result (IsNewPair (length buf.old)) }

@@ -174,6 +174,7 @@ pub(crate) fn lay_down<D: Disk>(
         → (some_frames ≡ false → (one.frames ≡ []) × (two.frames ≡ [])) → (some_frames ≡ true → IfSome (D.told disk.old) (λ told. AreSeen view one two places.now (reads told)))
         → IsLog first → IfSome (D.told disk.old) (λ told. IsFirst (reads told) first one two)
         → Passes view.opening (LeavesMap view) (ByAnswer (is_ok result) (IsResetting view first one two None) (AreSynced view one two)) (D.told disk.old) (D.told disk.new) }
+    ensures only { OnOk result (OnlyMain (D.told disk.old) (D.told disk.new)) }
     ensures reached { OnOk result ((some_frames ≡ false → IsInside (D.told disk.old) Main (length places.now * length buf.old) 0) → IsInside (D.told disk.new) Main (length places.now * length buf.old) 0) }
     ensures stays { OnlyWrites D.DiskTells disk.old disk.new }
     ensures faults { Counts (is_ok result) (D.faults disk.old) (D.faults disk.new) }

@@ -94,7 +94,6 @@ fn settle_seen<D: Disk, W: Salts>(
     requires whole { IsWholeSeen seen.now }
     requires seen { IfSome (D.told disk.old) (λ told. IsSeen (length buf.old) (reads told) seen.now) }
     requires named { seen.now.is_new ≡ false → seen.now.named ≡ length seen.now.places }
-    requires some { seen.now.is_new ≡ false → 1 ≤ length seen.now.places }
     ensures pair { IfOk result (IsNewPair seen.now.page_size) }
     ensures moments { (view : OpeningView) (one two : FoundLog) → Since view.opening.start (IsSyncing view one two []) (D.told disk.old)
         → IfSome (D.told disk.old) (λ told. IsViewOf seen.now (reads told) view one two)
@@ -132,7 +131,6 @@ pub fn settle<D: Disk, W: Salts>(
     requires new_size { seen.is_new ≡ true → seen.page_size ≡ setup.now.page_size }
     requires seen { IfSome (D.told disk.old) (λ told. IsSeen setup.now.page_size (reads told) seen) }
     requires named { seen.is_new ≡ false → seen.named ≡ length seen.places }
-    requires some { seen.is_new ≡ false → 1 ≤ length seen.places }
     ensures pair { IfOk result (IsNewPair seen.page_size) }
     ensures moments { (view : OpeningView) (one two : FoundLog) → Since view.opening.start (IsSyncing view one two []) (D.told disk.old)
         → IfSome (D.told disk.old) (λ told. IsViewOf seen (reads told) view one two)

@@ -1,7 +1,8 @@
 use Rattle.std.proofs.Common.{◌≡◌, ◌+◌, ◌*◌, ◌≤◌, ℕ, [], length, None, true, false, sym, ◌∙◌, subst}
 use Rattle.std.specs.Prelude.{IfSome}
-use Rattle.disk_face.specs.declared.disk.File.TheVariants.{Log1}
+use Rattle.disk_face.specs.declared.disk.File.TheVariants.{Main, Log1}
 use Rattle.disk_face.specs.Steps.{reads}
+use Rattle.disk_face.specs.Told.{IsInside}
 use Rattle.crash_spec.specs.Passes.{WhereDone}
 use Rattle.log_spec.specs.LogHeader.{log_fields}
 use Rattle.opening_spec.specs.Found.{IsFirst, next_log}
@@ -10,8 +11,8 @@ use Rattle.recover.specs.Founding.{HasMigrated}
 use Rattle.recover.specs.NewPages.{migrated}
 use Rattle.recover.specs.Places.{AreSeen}
 use Rattle.recover.specs.Ready.{store_view}
-use Rattle.recover.proofs.Placing.{said_still}
-use Rattle.recover.proofs.Readying.{lift_opening, settling_join, first_found, log1_resets, map_not, said_on, counted_now, both_known, resets_migrated}
+use Rattle.recover.proofs.Placing.{said_still, said_only, said_same}
+use Rattle.recover.proofs.Readying.{lift_opening, settling_join, first_found, log1_resets, map_not, said_on, counted_now, some_now, both_known, whole_first, resets_migrated}
 use Rattle.recover.proofs.begin.begin_migrated.Goals as goal
 
 pub returns-in-Ok-reset_logs-clause-moments : goal.returns-in-Ok-reset_logs-clause-moments
@@ -29,7 +30,8 @@ returns-in-Ok-reset_logs-clause-moments g c view one two h sized none none1 seen
     let n : ℕ = length places in
     let size : ℕ = length c.args.buf.now in
     let reached = c.in-Ok-lay_down.ensures.reached (λ no. said_still (λ files. n * size + 0 ≤ length files.main) _ _ same (c.requires.whole no)) in
-    let known = both_known view n size _ sized (said_on (length view.map ≡ n) view.opening (LeavesMap view) (λ told. IsResetting view first.0 one two None told) _ _ down (counted_now view one two places _ seen')) reached in
+    let known = both_known view n size c.max-size.result _ sized c.max-size.ensures (said_on (length view.map ≡ n) view.opening (LeavesMap view) (λ told. IsResetting view first.0 one two None told) _ _ down (counted_now view one two places _ seen'))
+    (said_on (1 ≤ length view.map) view.opening (LeavesMap view) (λ told. IsResetting view first.0 one two None told) _ _ down (some_now view one two places _ seen')) reached in
     let here = c.args.headers.now.here.bytes in
     let there = c.args.headers.now.there.bytes in
     let founded = settling_join view later (λ told. IsResetting view Log1 one two None told) (λ told. HasMigrated view (next_log one) two told) _ _ _ laid
@@ -52,7 +54,8 @@ returns-in-Err-reset_logs-clause-moments g c view one two h sized none none1 see
     let n : ℕ = length places in
     let size : ℕ = length c.args.buf.now in
     let reached = c.in-Ok-lay_down.ensures.reached (λ no. said_still (λ files. n * size + 0 ≤ length files.main) _ _ same (c.requires.whole no)) in
-    let known = both_known view n size _ sized (said_on (length view.map ≡ n) view.opening (LeavesMap view) (λ told. IsResetting view first.0 one two None told) _ _ down (counted_now view one two places _ seen')) reached in
+    let known = both_known view n size c.max-size.result _ sized c.max-size.ensures (said_on (length view.map ≡ n) view.opening (LeavesMap view) (λ told. IsResetting view first.0 one two None told) _ _ down (counted_now view one two places _ seen'))
+    (said_on (1 ≤ length view.map) view.opening (LeavesMap view) (λ told. IsResetting view first.0 one two None told) _ _ down (some_now view one two places _ seen')) reached in
     let here = c.args.headers.now.here.bytes in
     let there = c.args.headers.now.there.bytes in
     let founded = settling_join view later (λ told. IsResetting view Log1 one two None told) (λ told. HasMigrated view (next_log one) two told) _ _ _ laid
@@ -75,7 +78,8 @@ returns-in-Err-found_migrated-clause-moments g c view one two h sized none none1
     let n : ℕ = length places in
     let size : ℕ = length c.args.buf.now in
     let reached = c.in-Ok-lay_down.ensures.reached (λ no. said_still (λ files. n * size + 0 ≤ length files.main) _ _ same (c.requires.whole no)) in
-    let known = both_known view n size _ sized (said_on (length view.map ≡ n) view.opening (LeavesMap view) (λ told. IsResetting view first.0 one two None told) _ _ down (counted_now view one two places _ seen')) reached in
+    let known = both_known view n size c.max-size.result _ sized c.max-size.ensures (said_on (length view.map ≡ n) view.opening (LeavesMap view) (λ told. IsResetting view first.0 one two None told) _ _ down (counted_now view one two places _ seen'))
+    (said_on (1 ≤ length view.map) view.opening (LeavesMap view) (λ told. IsResetting view first.0 one two None told) _ _ down (some_now view one two places _ seen')) reached in
     settling_join view later (λ told. IsResetting view Log1 one two None told) (λ told. Unit {0}) _ _ _ laid
     (c.in-Err-found_migrated.ensures.moments view one two laid.holds next1 none (c.lay_down.auto.buf ∙ sized) known)
 
@@ -95,3 +99,12 @@ returns-in-Err-lay_down-clause-moments g c view one two h sized none none1 seen 
 pub returns-in-Err-clause-moments : goal.returns-in-Err-clause-moments
 returns-in-Err-clause-moments g c view one two h sized none none1 seen next1 next2 last =
     lift_opening view (migrated view.map) (λ told. Unit {0}) _ _ (c.in-Err.ensures.moments view one two h)
+
+pub found_migrated-requires-clause-whole : goal.found_migrated-requires-clause-whole
+found_migrated-requires-clause-whole g c =
+    let n : ℕ = length c.args.places.now in
+    let size : ℕ = length c.args.buf.now in
+    let same = c.in-Ok.ensures.reads in
+    subst (λ (k : ℕ). IsInside (g.D.DiskTells.told c.lay_down.new.disk) Main 0 k) (sym c.lay_down.auto.buf)
+    (whole_first n size _ (said_only (1 ≤ n) _ _ c.in-Ok-lay_down.ensures.only (said_same (1 ≤ n) _ _ same c.requires.some))
+    (c.in-Ok-lay_down.ensures.reached (λ no. said_still (λ files. n * size + 0 ≤ length files.main) _ _ same (c.requires.whole no))))

@@ -1,8 +1,9 @@
-use Rattle.std.proofs.Common.{◌≡◌, true, false, List, length, subst, sym, ◌∙◌, ap}
+use Rattle.std.proofs.Common.{◌≡◌, ◌≤◌, true, false, List, length, subst, sym, ◌∙◌, ap}
 use Rattle.page_spec.specs.Header.{is_page_size}
+use Rattle.std.specs.Prelude.{IfSome}
 use Rattle.recover.specs.Seeing.{SeenView}
 use Rattle.recover.specs.declared.place.Place.{Place}
-use Rattle.recover.proofs.SeenFiles.{legal_size, whole_told, new_told, ours_told, migrated_told, NewSays, OursSays, MigratedSays}
+use Rattle.recover.proofs.SeenFiles.{legal_size, whole_told, some_told, new_told, ours_told, migrated_told, NewSays, OursSays, MigratedSays}
 use Rattle.recover.proofs.settling.settle_seen.Goals as goal
 
 pub settle_new-requires-clause-size : goal.settle_new-requires-clause-size
@@ -47,3 +48,9 @@ returns-else-seen-2-clause-moments g c view one two h of =
     (subst (λ (s : SeenView). MigratedSays s.one s.two s.places s.some_frames (length c.args.buf.now) c.settle_migrated.result (g.D.DiskTells.told c.args.disk.now) (g.D.DiskTells.told c.settle_migrated.new.disk)) (sym is)
     (subst (λ (places : List Place). MigratedSays c.seen.inside.one c.seen.inside.two places c.seen.inside.some_frames (length c.args.buf.now) c.settle_migrated.result (g.D.DiskTells.told c.args.disk.now) (g.D.DiskTells.told c.settle_migrated.new.disk)) c.deref-else-seen-2.ensures.value c.settle_migrated.ensures.moments))
     c.requires.seen view one two h of
+
+pub settle_migrated-requires-clause-some : goal.settle_migrated-requires-clause-some
+settle_migrated-requires-clause-some g c =
+    let is = sym c.seen.view_is in
+    subst (λ (places : List Place). IfSome (g.D.DiskTells.told c.args.disk.now) (λ told. 1 ≤ length places)) (ap (λ (s : SeenView). s.places) is ∙ sym c.deref-else-seen-2.ensures.value)
+    (some_told (length c.args.buf.now) c.args.seen.now _ (ap (λ (s : SeenView). s.is_new) is ∙ c.if-seen.false) c.requires.seen)
