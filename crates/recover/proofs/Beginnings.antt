@@ -1,17 +1,16 @@
 -- Log 1 gets the header behind which the first commit goes; and what stands in Main after it.
-use Rattle.std.proofs.Common.{◌≡◌, ℕ, ◌+◌, ◌*◌, ◌%◌, ◌^◌, ◌≤◌, ◌<◌, Bool, true, false, inl, inr, List, [], ◌∷◌, length, max, Option, Some, None, refl, sym, ◌∙◌, ap, subst, arith}
+use Rattle.std.proofs.Common.{◌≡◌, ℕ, ◌+◌, ◌*◌, ◌%◌, ◌^◌, ◌≤◌, ◌<◌, Bool, true, false, inl, inr, List, [], length, Option, Some, None, refl, sym, ◌∙◌, ap, subst, arith}
 use Rattle.std.specs.Prelude.{IfSome}
-use Rattle.disk_face.specs.declared.disk.File.TheVariants.{Main, Log1, Log2}
+use Rattle.disk_face.specs.declared.disk.File.TheVariants.{Log1, Log2}
 use Rattle.disk_face.specs.declared.step.Step.TheVariants.{Wrote, Synced}
 use Rattle.disk_face.specs.Files.{Files}
 use Rattle.disk_face.specs.Steps.{History, reads, after}
 use Rattle.disk_face.proofs.Contents.{length-overwritten}
-use Rattle.page_spec.specs.Header.{pages_in}
-use Rattle.page_spec.specs.PageMap.{PageMap, page_at}
+use Rattle.page_spec.specs.PageMap.{PageMap}
 use Rattle.log_spec.specs.LogHeader.{LogFields, log_fields}
 use Rattle.log_spec.specs.Accept.{Frame}
-use Rattle.crash_spec.specs.Opening.{Opening, Since, grown, rebased}
-use Rattle.crash_spec.specs.Passes.{Passes, WhereDone, ByAnswer}
+use Rattle.crash_spec.specs.Opening.{Opening, Since, rebased}
+use Rattle.crash_spec.specs.Passes.{Passes}
 use Rattle.crash_spec.proofs.Passing.{passes_join, passes_weaker}
 use Rattle.crash_spec.proofs.Rebased.{rebased_reads}
 use Rattle.wal_frames.specs.Front.{fields_for}
@@ -24,7 +23,7 @@ use Rattle.opening_spec.specs.Found.{OpeningView, FoundLog, IsNextHeader, NamesI
 use Rattle.opening_spec.specs.States.{AreSynced, IsLaidDown, IsResetting, HasReset, IsFounding, LeavesMap, LeavesEither}
 use Rattle.opening_spec.proofs.Founding.{founding_begins}
 use Rattle.opening_spec.proofs.Settling.{begins_resetting}
-use Rattle.recover.specs.Founding.{HoldFrom, MakesMap, IsCommitting, HasCommitted, HasFounded, Commits, CommitsPages, FailsToCommit, Founds, FoundsPages, FailsToFound, later_view, with_first}
+use Rattle.recover.specs.Founding.{IsCommitting, HasCommitted, HasFounded, Commits, CommitsPages, FailsToCommit, Founds, FoundsPages, FailsToFound, later_view, with_first}
 use Rattle.recover.proofs.Resets.{header_passes}
 
 -- what holds of the files now holds in the state too

@@ -1,5 +1,5 @@
 -- The first commit, frame by frame, and sealed.
-use Rattle.std.proofs.Common.{◌≡◌, ◌≢◌, ◌⊎◌, ℕ, ◌+◌, ◌-◌, ◌≤◌, ◌<◌, Bool, true, false, if◌then◌else◌, inl, inr, List, [], ◌∷◌, ◌++◌, length, length-append, Option, Some, None, refl, sym, ◌∙◌, ap, subst, arith}
+use Rattle.std.proofs.Common.{◌≡◌, ◌≢◌, ◌⊎◌, ℕ, ◌+◌, ◌-◌, ◌≤◌, Bool, true, false, inl, inr, List, [], ◌∷◌, ◌++◌, length, length-append, Option, Some, refl, sym, ◌∙◌, ap, subst, arith}
 use Rattle.std.proofs.lemmas.Grind.{fold-append}
 use Rattle.disk_face.specs.declared.disk.File.{File}
 use Rattle.disk_face.specs.declared.disk.File.TheVariants.{Log1}
@@ -13,7 +13,6 @@ use Rattle.page_spec.specs.PageMap.{PageMap}
 use Rattle.log_spec.specs.Checksum.{Sum}
 use Rattle.log_spec.specs.Accept.{Frame, IsValidFrame, AreCommitted, sum_of_frames, last_size, commit_size}
 use Rattle.log_spec.specs.Frames.{end_of}
-use Rattle.log_spec.specs.Written.{IsFrameOf}
 use Rattle.crash_spec.specs.Opening.{Since, grown, rebased}
 use Rattle.crash_spec.specs.Passes.{Passes, WhereDone}
 use Rattle.crash_spec.specs.Recovered.{overlaid}
@@ -28,7 +27,7 @@ use Rattle.opening_spec.specs.Found.{OpeningView, FoundLog}
 use Rattle.opening_spec.specs.States.{AreSynced, IsFounding, LeavesEither}
 use Rattle.opening_spec.proofs.Founding.{founding_images, founding_wrote, founding_refused, founded}
 use Rattle.opening_spec.proofs.Synced.{synced_images}
-use Rattle.recover.specs.Founding.{HoldFrom, MakesMap, IsCommitting, HasCommitted, Commits, AppendsPages, CommitsPages, FailsToCommit, later_view, with_first}
+use Rattle.recover.specs.Founding.{HoldFrom, IsCommitting, HasCommitted, AppendsPages, CommitsPages, FailsToCommit, later_view, with_first}
 use Rattle.recover.proofs.FirstPages.{hold_push, once_more}
 
 last_push : (frames : List Frame) (frame : Frame) → last_size (frames ++ frame ∷ []) ≡ commit_size frame
@@ -135,8 +134,7 @@ appends_more pair mid later_pair page count size old near new frame first (frame
     let number : count + 1 ≡ 1 + length frames = omega (arith, long) in
     let hold' : HoldFrom page 1 all = hold_push page 1 frames frame hold (appends.is.numbered ∙ number) (appends.is.holds ∙ ap page number) in
     let long' : length all ≡ count + 1 = omega (arith, length-append frames (frame ∷ []), long) in
-    let ends' : last_size all ≡ size = last_push frames frame ∙ appends.is.sized in
-    (
+    let ends' : last_size all ≡ size = last_push frames frame ∙ appends.is.sized in (
       all,
       hold',
       long',

@@ -1,16 +1,14 @@
 -- What the frames of a first commit make of Main.
-use Rattle.std.proofs.Common.{◌≡◌, ℕ, ◌+◌, ◌-◌, ◌≤◌, ◌<◌, ◌==◌, Bool, true, false, if◌then◌else◌, inl, inr, List, [], ◌∷◌, ◌++◌, length, take, Option, Some, None, replicate, refl, sym, ◌∙◌, ap, subst, arith, zero, suc}
+use Rattle.std.proofs.Common.{◌≡◌, ℕ, ◌+◌, ◌-◌, ◌≤◌, ◌<◌, ◌==◌, Bool, true, false, if◌then◌else◌, inl, inr, List, [], ◌∷◌, ◌++◌, length, take, Option, Some, None, replicate, refl, sym, ◌∙◌, ap, subst, arith}
 use Rattle.std.specs.Prelude.{IfSome, Contains, nat_lt}
 use Rattle.std.proofs.lemmas.Bool.{cases_lt}
 use Rattle.std.proofs.lemmas.Bool.Decides.{nat_tests}
 use Rattle.std.proofs.lemmas.List.Elements.{Contains-append_left}
-use Rattle.disk_face.specs.Files.{Files}
 use Rattle.disk_face.specs.Steps.{History, reads}
 use Rattle.page_spec.specs.Header.{fields_of, page_size_in, pages_in}
-use Rattle.page_spec.specs.PageMap.{PageMap}
 use Rattle.log_spec.specs.LogHeader.{log_fields}
 use Rattle.log_spec.specs.Accept.{Frame, page_number, page_of, page_numbers, last_size}
-use Rattle.crash_spec.specs.Recovered.{main_page, page_after_frames, pages_from, overlaid, laid_over, size_after}
+use Rattle.crash_spec.specs.Recovered.{main_page, page_after_frames, pages_from, laid_over, size_after}
 use Rattle.crash_spec.proofs.Pieces.{contains_head, contains_tail}
 use Rattle.opening_spec.specs.Found.{OpeningView, FoundLog, pages_held, page_in}
 use Rattle.recover.specs.NewPages.{first_then_zeros}
@@ -56,8 +54,7 @@ hold_page page from (f ∷ fs) n below (is, bytes, hold) ge less = elim (cases_l
       let rest = hold_page page (from + 1) fs n (if page_number f == n then page_of f else below) hold (omega arith) (omega arith) in
       (rest.0, contains_tail (page_number f) (page_numbers fs) n rest.1)
   | inr here ↦
-      let same : from ≡ n = omega arith in
-      (
+      let same : from ≡ n = omega arith in (
         ap (λ (b : Bool). page_after_frames fs n (if b then page_of f else below)) (same_number (page_number f) n (is ∙ same))
             ∙ below_hold page (from + 1) n fs (page_of f) hold (omega arith) ∙ bytes ∙ ap page same,
         subst (λ (k : ℕ). Contains (page_number f ∷ page_numbers fs) k) (is ∙ same) (contains_head (page_number f) (page_numbers fs)),
@@ -75,8 +72,7 @@ makes_new main page_size page count some sized frames hold long ends =
     let first : page_after_frames frames 1 (take 100 main) ≡ page 1 = (hold_page page 1 frames 1 (take 100 main) hold (omega arith) (omega arith)).0 in
     let named : page_size_in (fields_of (page_after_frames frames 1 (take 100 main))) ≡ page_size = ap (λ (bytes : List ℕ). page_size_in (fields_of bytes)) first ∙ sized in
     let s : ℕ = page_size_in (fields_of (page_after_frames frames 1 (take 100 main))) in
-    let p : ℕ = pages_in (page_after_frames frames 1 (take 100 main)) (length main) in
-    (
+    let p : ℕ = pages_in (page_after_frames frames 1 (take 100 main)) (length main) in (
       ap (λ (n : ℕ). laid_over n s main [] frames) (size_of frames p (omega arith) ∙ ends ∙ sym long)
           ∙ pages_hold page 1 frames (λ n. main_page s main n) hold
           ∙ ap (λ (n : ℕ). pages_from page 1 n) long,
@@ -94,8 +90,7 @@ pub held_page : (view : OpeningView) (one two : FoundLog) (page : ℕ → List �
 held_page view one two page n bytes None none hold from within is = tt
 held_page view one two page n bytes (Some told) none hold from within is =
     let below : List ℕ = main_page view.size (reads told).main n in
-    let has = hold_page page 1 one.frames n below hold from (omega arith) in
-    (
+    let has = hold_page page 1 one.frames n below hold from (omega arith) in (
       Contains-append_left (page_numbers one.frames) (page_numbers two.frames) n has.1,
       is ∙ sym has.0 ∙ sym (either_page (nat_lt (log_fields (reads told).log1).generation (log_fields (reads told).log2).generation) one.frames two.frames n below none),
     )

@@ -1,14 +1,13 @@
 -- A new database is founded: its pages are committed, and written to Main.
-use Rattle.std.proofs.Common.{◌≡◌, ℕ, ◌+◌, ◌≤◌, Bool, true, false, inr, List, [], length, Option, Some, None, refl, sym, ◌∙◌, ap, subst, arith}
+use Rattle.std.proofs.Common.{◌≡◌, ℕ, ◌+◌, ◌≤◌, Bool, true, false, inr, List, [], length, Option, Some, None, sym, ◌∙◌, ap, subst}
 use Rattle.std.specs.Prelude.{IfSome}
 use Rattle.disk_face.specs.declared.disk.File.TheVariants.{Log1}
-use Rattle.disk_face.specs.Files.{Files}
 use Rattle.disk_face.specs.Steps.{History, reads}
 use Rattle.page_spec.specs.Header.{is_page_size}
 use Rattle.page_spec.specs.PageMap.{PageMap}
 use Rattle.log_spec.specs.Accept.{Frame}
 use Rattle.crash_spec.specs.Opening.{Since}
-use Rattle.crash_spec.specs.Passes.{Passes, ByAnswer, WhereDone}
+use Rattle.crash_spec.specs.Passes.{Passes, ByAnswer}
 use Rattle.opening_spec.specs.Found.{OpeningView, FoundLog, IsNextHeader, next_log}
 use Rattle.opening_spec.specs.States.{AreSynced, IsLaidDown, IsResetting, LeavesMap, LeavesEither}
 use Rattle.recover.specs.declared.setup.StoreKind.{StoreKind}

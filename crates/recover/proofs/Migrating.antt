@@ -1,5 +1,5 @@
 -- Page 1 gets this program's versions.
-use Rattle.std.proofs.Common.{◌≡◌, ◌≢◌, ℕ, zero, suc, ◌+◌, ◌-◌, ◌*◌, ◌≤◌, ◌<◌, ◌==◌, Bool, true, false, if◌then◌else◌, inl, inr, List, [], ◌∷◌, length, take, drop, max, Option, Some, None, refl, sym, ◌∙◌, ap, subst, arith}
+use Rattle.std.proofs.Common.{◌≡◌, ◌≢◌, ℕ, zero, suc, ◌+◌, ◌-◌, ◌*◌, ◌≤◌, ◌<◌, ◌==◌, Bool, true, false, if◌then◌else◌, inl, inr, List, [], ◌∷◌, length, take, max, Option, Some, None, refl, sym, ◌∙◌, ap, subst, arith}
 use Rattle.std.specs.Prelude.{IfSome, nat_lt, slice_index}
 use Rattle.std.proofs.lemmas.Bool.{cases_lt}
 use Rattle.std.proofs.lemmas.Bool.Decides.{nat_tests}
@@ -12,13 +12,13 @@ use Rattle.page_spec.specs.Bytes.{u16_at, u32_at}
 use Rattle.page_spec.specs.Header.{fields_of, page_size_in, pages_in}
 use Rattle.page_spec.specs.PageMap.{PageMap, page_at}
 use Rattle.log_spec.specs.LogHeader.{log_fields}
-use Rattle.log_spec.specs.Accept.{Frame, page_number, page_of}
+use Rattle.log_spec.specs.Accept.{Frame, page_of}
 use Rattle.crash_spec.specs.Opening.{Since, rebased}
 use Rattle.crash_spec.specs.Passes.{Passes, ByAnswer}
 use Rattle.crash_spec.specs.Recovered.{main_page, page_after_frames, pages_from, overlaid, laid_over}
 use Rattle.crash_spec.proofs.Passing.{passes_weaker, passes_still}
 use Rattle.crash_spec.proofs.Rebased.{rebased_reads}
-use Rattle.opening_spec.specs.Found.{OpeningView, FoundLog, IsNextHeader, next_log, older_in, newer_in}
+use Rattle.opening_spec.specs.Found.{OpeningView, FoundLog, IsNextHeader, next_log}
 use Rattle.opening_spec.specs.States.{AreSynced, IsLaidDown, IsResetting, LeavesMap, LeavesEither}
 use Rattle.opening_spec.proofs.Laid.{header-take, page_1_is}
 use Rattle.opening_spec.proofs.Reset.{written_images}
@@ -96,8 +96,7 @@ makes_one main first count frames hold long ends =
     let page : ℕ → List ℕ = first_then_zeros first in
     let start : page_after_frames frames 1 (take 100 main) ≡ first = (hold_page page 1 frames 1 (take 100 main) hold (omega arith) (omega arith)).0 in
     let s : ℕ = page_size_in (fields_of (page_after_frames frames 1 (take 100 main))) in
-    let named : s ≡ page_size_in (fields_of first) = ap (λ (bytes : List ℕ). page_size_in (fields_of bytes)) start in
-    (
+    let named : s ≡ page_size_in (fields_of first) = ap (λ (bytes : List ℕ). page_size_in (fields_of bytes)) start in (
       ap (λ (n : ℕ). laid_over n s main [] frames) (size_of frames _ (omega arith) ∙ ends) ∙ ap (λ (n : ℕ). laid_over count n main [] frames) named
           ∙ pages_alike (λ n. page_after_frames frames n (main_page (page_size_in (fields_of first)) main n)) (λ n. if n == 1 then first else main_page (page_size_in (fields_of first)) main n) 1 count
           (λ n from. each n from (main_page (page_size_in (fields_of first)) main n)),
@@ -212,8 +211,7 @@ module _ (view : OpeningView) (one two : FoundLog) (bytes first : List ℕ) (siz
   -- what Main is then
   on_main : (told : History) → Told (Some told) → (page_size_in (fields_of (take 100 (reads told).main)) ≡ view.size) × (overlaid (reads told).main [] [] ≡ view.map)
   on_main told ((since, grew, r), (counts, long), is) =
-      let same : reads (rebased view.opening.start since) ≡ reads told = sym (ap reads grew ∙ rebased_reads view.opening.start since) in
-      (
+      let same : reads (rebased view.opening.start since) ≡ reads told = sym (ap reads grew ∙ rebased_reads view.opening.start since) in (
         elim r.written.fits [
           | inl empty ↦ absurd (not_empty (ap (λ (files : Files). length files.main) (sym same) ∙ ap (λ (xs : List ℕ). length xs) empty) long)
           | inr (b, fits) ↦ subst (λ (files : Files). page_size_in (fields_of (take 100 files.main)) ≡ view.size) same fits

@@ -27,7 +27,7 @@ use Rattle.opening_spec.specs.Found.{OpeningView, FoundLog, IsFirst, IsNextHeade
 use Rattle.opening_spec.specs.States.{IsSyncing, AreSynced, IsResetting, IsSettled, LeavesMap, LeavesOpening, LeavesEither, header1_of, header2_of}
 use Rattle.opening_spec.proofs.Settling.{bare_passes}
 use Rattle.opening_spec.proofs.Syncing.{sync_still}
-use Rattle.recover.specs.Headers.{generation_in, last_salt, first_of}
+use Rattle.recover.specs.Headers.{generation_in, first_of}
 use Rattle.recover.specs.Seeing.{next_odd}
 use Rattle.recover.specs.Founding.{HasFounded, HasMigrated, later_view, with_first}
 use Rattle.recover.specs.NewPages.{migrated}

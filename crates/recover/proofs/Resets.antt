@@ -2,7 +2,7 @@
 use Rattle.std.proofs.lemmas.Bool.Decides.{nat_tests}
 use Rattle.recover.specs.Headers.{next_even}
 use Rattle.recover.specs.Seeing.{next_odd}
-use Rattle.std.proofs.Common.{arith, ◌≤◌, ◌≡◌, ◌⊎◌, inl, inr, ℕ, ◌+◌, ◌-◌, ◌%◌, ◌^◌, ◌<◌, Bool, true, false, List, Option, refl, sym, ◌∙◌, ap, subst}
+use Rattle.std.proofs.Common.{arith, ◌≤◌, ◌≡◌, ◌⊎◌, inl, inr, ℕ, ◌+◌, ◌%◌, ◌^◌, ◌<◌, Bool, true, false, List, Option, refl, sym, ◌∙◌, ap, subst}
 use Rattle.disk_face.specs.declared.disk.File.{File}
 use Rattle.disk_face.specs.Steps.{History}
 use Rattle.log_spec.specs.LogHeader.{LogFields, log_fields, is_generation, last_generation, IsOurs}

@@ -1,18 +1,18 @@
 -- What was seen of the files is what the writes of an opening go by.
-use Rattle.std.proofs.Common.{◌≡◌, ◌⊎◌, ℕ, zero, suc, ◌+◌, ◌-◌, ◌*◌, ◌%◌, ◌^◌, ◌≤◌, ◌<◌, ◌==◌, Bool, true, false, ◌&&◌, ◌||◌, not, if◌then◌else◌, inl, inr, List, [], ◌∷◌, ◌++◌, length, take, max, Option, Some, None, refl, sym, ◌∙◌, ap, subst, arith}
-use Rattle.std.specs.Prelude.{IfSome, Contains, nat_lt, nat_eq, is_none, slice_index_or, Result, Ok, Err}
+use Rattle.std.proofs.Common.{◌≡◌, ◌⊎◌, ℕ, zero, suc, ◌+◌, ◌*◌, ◌%◌, ◌^◌, ◌≤◌, ◌<◌, ◌==◌, Bool, true, false, ◌&&◌, ◌||◌, not, if◌then◌else◌, inl, inr, List, [], ◌∷◌, ◌++◌, length, take, max, Option, Some, None, refl, sym, ◌∙◌, ap, subst, arith}
+use Rattle.std.specs.Prelude.{IfSome, Contains, nat_eq, is_none, slice_index_or, Result}
 use Rattle.std.proofs.lemmas.Bool.Decides.{nat_tests}
 use Rattle.disk_face.specs.declared.Failed.{Failed}
-use Rattle.disk_face.specs.declared.disk.File.TheVariants.{Main, Log1, Log2}
+use Rattle.disk_face.specs.declared.disk.File.TheVariants.{Main}
 use Rattle.disk_face.specs.Files.{Files}
 use Rattle.disk_face.specs.Steps.{History, reads}
 use Rattle.disk_face.specs.Told.{IsInside}
-use Rattle.page_spec.specs.Header.{fields_of, page_size_in, pages_in, is_page_size}
+use Rattle.page_spec.specs.Header.{fields_of, pages_in, is_page_size}
 use Rattle.page_spec.specs.PageMap.{PageMap, page_at}
 use Rattle.log_spec.specs.LogHeader.{log_fields, is_signed, foreign_at, is_generation}
 use Rattle.log_spec.specs.Accept.{Frame, page_numbers}
 use Rattle.log_spec.specs.Frames.{accepted_frames}
-use Rattle.crash_spec.specs.Opening.{Opening, Since, rebased}
+use Rattle.crash_spec.specs.Opening.{Since}
 use Rattle.crash_spec.specs.Passes.{Passes}
 use Rattle.crash_spec.specs.Recovered.{main_page, page_after_frames, pages_from, size_after}
 use Rattle.crash_spec.proofs.Overlaid.{held_or_not}
@@ -23,7 +23,7 @@ use Rattle.wal_frames.specs.declared.header.Front.{Front}
 use Rattle.wal_frames.specs.declared.header.Front.TheVariants.{Nothing, Foreign, Ours}
 use Rattle.log_pair.specs.Pair.{PairView}
 use Rattle.opening_spec.specs.Begins.{salt_in}
-use Rattle.opening_spec.specs.Found.{OpeningView, FoundLog, IsFirst, NamesItsSize, older_in, newer_in, map_in, pages_held}
+use Rattle.opening_spec.specs.Found.{OpeningView, FoundLog, IsFirst, older_in, newer_in, map_in}
 use Rattle.opening_spec.specs.States.{IsSyncing, LeavesOpening}
 use Rattle.opening_spec.proofs.Laid.{header-take, page_1_is}
 use Rattle.recover.specs.declared.place.Place.{Place}
@@ -31,9 +31,9 @@ use Rattle.recover.specs.declared.place.Place.TheVariants.{InMain, InLog}
 use Rattle.recover.specs.declared.setup.StoreKind.{StoreKind}
 use Rattle.recover.specs.Headers.{last_salt, generation_in, first_of}
 use Rattle.recover.specs.NewPages.{new_pages, migrated}
-use Rattle.recover.specs.Places.{AreSeen, FitPlaces, FitsPlace, IsPlaceOf}
+use Rattle.recover.specs.Places.{AreSeen, FitsPlace, IsPlaceOf}
 use Rattle.recover.specs.Ready.{IsViewOf, LeavesSettling, ReadyWith, first_map}
-use Rattle.recover.specs.Seeing.{SeenView, IsSeen, IsWholeSeen, one_in, two_in, is_some_list, has_frames, is_new_in, first_in, size_in, map_found, founds}
+use Rattle.recover.specs.Seeing.{SeenView, IsSeen, IsWholeSeen, one_in, two_in, is_some_list, has_frames, first_in, size_in, map_found, founds}
 use Rattle.recover.proofs.First.{first_is}
 use Rattle.recover.proofs.Migrating.{length_from, pages_of_fields}
 use Rattle.recover.proofs.NewPages.{one_of}
@@ -209,10 +209,10 @@ module _ (new_size : ℕ) (files : Files) (seen : SeenView) (s : IsSeen new_size
           count = count;
           some = omega (arith, s.some_page there, count);
           names = inr (
-          ap (λ (m : PageMap). pages_in (page_at m 1) (max view.long (length view.map * view.size))) (sym is)
-          ∙ pages_of_fields (page_at (map_found files) 1) (first_in files) (max view.long (length view.map * view.size)) (first_fields big some)
-          ∙ ap (λ (n : ℕ). pages_in (first_in files) n) (sym whole)
-          ∙ sym (s.named there) ∙ named ∙ count);
+              ap (λ (m : PageMap). pages_in (page_at m 1) (max view.long (length view.map * view.size))) (sym is)
+              ∙ pages_of_fields (page_at (map_found files) 1) (first_in files) (max view.long (length view.map * view.size)) (first_fields big some)
+              ∙ ap (λ (n : ℕ). pages_in (first_in files) n) (sym whole)
+              ∙ sym (s.named there) ∙ named ∙ count);
           long = sym long;
         }
 

@@ -108,11 +108,7 @@ fn commit_pages<D: Disk>(
 }
 
 /// Gives log 1 the header behind which the first commit goes. `other` is one that log 2 may get.
-fn begin_log<D: Disk>(
-    disk: &mut D,
-    header: &NewHeader,
-    other: LogHeader,
-) -> Result<LogPair, Failed>
+fn begin_log<D: Disk>(disk: &mut D, header: &NewHeader, other: LogHeader) -> Result<LogPair, Failed>
     requires attached { D.attached disk.old ≡ true }
     requires one { IsLegalFront 1 (Ours header.now.header) }
     requires two { IsLegalFront 2 (Ours other) }

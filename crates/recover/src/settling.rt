@@ -105,9 +105,25 @@ fn settle_seen<D: Disk, W: Salts>(
     if seen.is_new {
         settle_new(disk, salts, kind, &seen.one, &seen.two, buf)
     } else if seen.is_ours {
-        settle_ours(disk, salts, &seen.one, &seen.two, &seen.places, seen.some_frames, buf)
+        settle_ours(
+            disk,
+            salts,
+            &seen.one,
+            &seen.two,
+            &seen.places,
+            seen.some_frames,
+            buf,
+        )
     } else {
-        settle_migrated(disk, salts, &seen.one, &seen.two, &seen.places, seen.some_frames, buf)
+        settle_migrated(
+            disk,
+            salts,
+            &seen.one,
+            &seen.two,
+            &seen.places,
+            seen.some_frames,
+            buf,
+        )
     }
 }
 

@@ -1,11 +1,8 @@
 use Rattle.std.proofs.Common.{◌≡◌, ◌+◌, ◌*◌, ◌≤◌, ℕ, [], length, None, true, false, sym, ◌∙◌, subst}
-use Rattle.std.specs.Prelude.{IfSome}
 use Rattle.disk_face.specs.declared.disk.File.TheVariants.{Main, Log1}
-use Rattle.disk_face.specs.Steps.{reads}
 use Rattle.disk_face.specs.Told.{IsInside}
-use Rattle.crash_spec.specs.Passes.{WhereDone}
 use Rattle.log_spec.specs.LogHeader.{log_fields}
-use Rattle.opening_spec.specs.Found.{IsFirst, next_log}
+use Rattle.opening_spec.specs.Found.{next_log}
 use Rattle.opening_spec.specs.States.{AreSynced, IsResetting, IsSettled, LeavesMap}
 use Rattle.recover.specs.Founding.{HasMigrated}
 use Rattle.recover.specs.NewPages.{migrated}

@@ -1,5 +1,4 @@
 use Rattle.std.proofs.Common.{◌≡◌, [], true, false}
-use Rattle.crash_spec.specs.Passes.{WhereDone}
 use Rattle.log_spec.specs.LogHeader.{log_fields}
 use Rattle.opening_spec.specs.Found.{next_log}
 use Rattle.opening_spec.specs.States.{AreSynced, IsSettled}

@@ -1,4 +1,4 @@
-use Rattle.std.proofs.Common.{◌≡◌, ◌≤◌, ◌+◌, ◌%◌, ◌^◌, ℕ, length, sym, ◌∙◌, ap, subst, arith}
+use Rattle.std.proofs.Common.{◌≡◌, ◌≤◌, ◌+◌, ℕ, sym, ◌∙◌, ap, subst, arith}
 use Rattle.disk_face.specs.declared.disk.File.TheVariants.{Log2}
 use Rattle.opening_spec.specs.Found.{next_log}
 use Rattle.recover.specs.NewPages.{new_pages}

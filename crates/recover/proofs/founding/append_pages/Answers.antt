@@ -1,4 +1,4 @@
-use Rattle.std.proofs.Common.{◌≡◌, ◌+◌, ◌-◌, ◌∙◌, true, false, List, ℕ, length, replicate, refl, sym, ap, subst, arith}
+use Rattle.std.proofs.Common.{◌≡◌, ◌∙◌, ℕ, length, refl, sym, ap, subst, arith}
 use Rattle.disk_face.proofs.Calls.{writes_twice}
 use Rattle.log_pair.specs.Pair.{PairView, current_header, written_frames}
 use Rattle.recover.specs.NewPages.{first_then_zeros}

@@ -1,5 +1,5 @@
 use Rattle.std.proofs.Common.{true, false}
-use Rattle.recover.proofs.Beginnings.{begins_log, begins_reached}
+use Rattle.recover.proofs.Beginnings.{begins_log}
 use Rattle.recover.proofs.founding.begin_log.Goals as goal
 
 pub returns-in-Ok-clause-moments : goal.returns-in-Ok-clause-moments

@@ -1,8 +1,7 @@
-use Rattle.std.proofs.Common.{◌≡◌, ◌≤◌, ℕ, List, length, Option, true, false, refl, sym, ◌∙◌, ap, subst, arith}
-use Rattle.crash_spec.specs.Opening.{Since}
+use Rattle.std.proofs.Common.{◌≡◌, ℕ, List, length, Option, true, false, sym, ◌∙◌, subst, arith}
 use Rattle.crash_spec.specs.Passes.{Passes}
 use Rattle.disk_face.specs.Steps.{History}
-use Rattle.opening_spec.specs.States.{LeavesEither, IsResetting}
+use Rattle.opening_spec.specs.States.{LeavesEither}
 use Rattle.recover.specs.NewPages.{first_then_zeros, migrated}
 use Rattle.recover.specs.Founding.{FoundsPages, FailsToFound}
 use Rattle.recover.proofs.FoundsNew.{LaysFirst}

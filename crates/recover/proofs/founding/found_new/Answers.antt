@@ -1,4 +1,4 @@
-use Rattle.std.proofs.Common.{◌≡◌, ◌≤◌, ℕ, List, length, true, refl, sym, ◌∙◌, ap, subst, arith}
+use Rattle.std.proofs.Common.{◌≡◌, ℕ, List, length, true, sym, ◌∙◌, ap, subst, arith}
 use Rattle.page_spec.specs.Header.{is_page_size}
 use Rattle.recover.specs.NewPages.{new_first_page}
 use Rattle.recover.proofs.FoundsNew.{founds_new, lays_not, founds_not}

@@ -1,8 +1,7 @@
-use Rattle.std.proofs.Common.{◌≡◌, ℕ, ◌+◌, ◌-◌, ◌*◌, List, length, replicate, true, false, refl, sym, ◌∙◌, ap, subst, arith}
-use Rattle.std.specs.Prelude.{IfSome}
+use Rattle.std.proofs.Common.{◌≡◌, ℕ, ◌+◌, ◌-◌, ◌*◌, length, refl, sym, ◌∙◌, subst, arith}
 use Rattle.disk_face.specs.declared.disk.File.TheVariants.{Main}
 use Rattle.disk_face.specs.Told.{IsInside}
-use Rattle.disk_face.proofs.Calls.{writes_twice, counts_twice}
+use Rattle.disk_face.proofs.Calls.{writes_twice}
 use Rattle.crash_spec.specs.Passes.{Passes}
 use Rattle.crash_spec.proofs.Passing.{passes_join}
 use Rattle.opening_spec.specs.States.{IsWriting, AreSynced, LeavesMap}
