@@ -131,13 +131,11 @@ two_is_first one two header is = ap (λ (b : Bool). if b then Log1 else Log2) (b
     below : (m n g : ℕ) → g ≡ next_odd (max m n) → nat_lt g n ≡ false
     below m n g is = grind (arith, nat_tests)
 
-pub new_ready : (view : OpeningView) (later : PageMap) (first : File) (one two : LogHeader) (pair : PairView) (here there : List ℕ) (old new : Option History) → first ≡ Log2 → pair ≡ new_pair 1 one two
-    → fields_for one ≡ header1_of first (log_fields here) (log_fields there) → fields_for two ≡ header2_of first (log_fields here) (log_fields there) → 1 ≤ length later
-    → Passes view.opening (LeavesSettling view later) (IsSettled (store_view view later) (log_fields there) (log_fields here)) old new → Passes view.opening (LeavesSettling view later) (IsReady view later pair) old new
-new_ready view later first one two pair here there old new at is fields1 fields2 some passes =
-    passes_weaker view.opening (LeavesSettling view later) (LeavesSettling view later) (IsSettled (store_view view later) (log_fields there) (log_fields here)) (IsReady view later pair) (λ told image leaves. leaves)
-    (λ told s. ready view later one two pair (log_fields there) (log_fields here) told is (fields1 ∙ ap (λ (f : File). header1_of f (log_fields here) (log_fields there)) at)
-    (fields2 ∙ ap (λ (f : File). header2_of f (log_fields here) (log_fields there)) at) some s) old new passes
+pub new_ready : (view : OpeningView) (later : PageMap) (one two : LogHeader) (pair : PairView) (header older : LogFields) (old new : Option History) → pair ≡ new_pair 1 one two → fields_for one ≡ header → fields_for two ≡ older → 1 ≤ length later
+    → Passes view.opening (LeavesSettling view later) (IsSettled (store_view view later) header older) old new → Passes view.opening (LeavesSettling view later) (IsReady view later pair) old new
+new_ready view later one two pair header older old new is fields1 fields2 some passes =
+    passes_weaker view.opening (LeavesSettling view later) (LeavesSettling view later) (IsSettled (store_view view later) header older) (IsReady view later pair) (λ told image leaves. leaves)
+    (λ told s. ready view later one two pair header older told is fields1 fields2 some s) old new passes
 
 pub next_both : (first : File) (one two : FoundLog) (here there : List ℕ) → first ≡ Log2 → IsNextHeader first (found_log first one two) here × IsNextHeader (other_of first) (found_log (other_of first) one two) there
     → IsNextHeader Log2 two here × IsNextHeader Log1 one there

@@ -20,9 +20,7 @@ ghost use Rattle.recover.specs.Ready.{IsNewPair, LeavesSettling, ReadyWith, stor
 ghost use Rattle.recover.specs.Seeing.{next_odd};
 
 use crate::founding::{found_migrated, found_new};
-use crate::header::{
-    NewHeaders, newest_generation, next_header, next_headers, odd_generation, reset_logs,
-};
+use crate::header::{NewHeaders, first_headers, next_headers, reset_logs};
 use crate::pages::lay_down;
 use crate::place::Place;
 use crate::settling::settle_files;
@@ -93,12 +91,9 @@ pub(crate) fn settle_new<D: Disk, W: Salts>(
     ensures faults { Counts (is_ok result) (D.faults disk.old) (D.faults disk.new) }
     ensures loans { W.loans salts.new ≡ W.loans salts.old }
 {
-    let page_size = buf.len() as u32;
-    let generation = odd_generation(newest_generation(one, two));
-    let header = next_header(one, 1, page_size, generation, salts.word());
-    let headers = next_headers(salts, &Front::Ours(header.header), two, page_size);
-    match begin_new(disk, kind, &header, &headers, buf) {
-        Ok(()) => Ok(LogPair::new(1, headers.one, headers.two)),
+    let headers = first_headers(salts, one, two, buf.len() as u32);
+    match begin_new(disk, kind, &headers.commit, &headers.after, buf) {
+        Ok(()) => Ok(LogPair::new(1, headers.after.one, headers.after.two)),
         Err(Failed) => Err(Failed),
     }
 }
@@ -220,12 +215,16 @@ pub(crate) fn settle_migrated<D: Disk, W: Salts>(
     ensures faults { Counts (is_ok result) (D.faults disk.old) (D.faults disk.new) }
     ensures loans { W.loans salts.new ≡ W.loans salts.old }
 {
-    let page_size = buf.len() as u32;
-    let generation = odd_generation(newest_generation(one, two));
-    let header = next_header(one, 1, page_size, generation, salts.word());
-    let headers = next_headers(salts, &Front::Ours(header.header), two, page_size);
-    match begin_migrated(disk, places, some_frames, &header, &headers, buf) {
-        Ok(()) => Ok(LogPair::new(1, headers.one, headers.two)),
+    let headers = first_headers(salts, one, two, buf.len() as u32);
+    match begin_migrated(
+        disk,
+        places,
+        some_frames,
+        &headers.commit,
+        &headers.after,
+        buf,
+    ) {
+        Ok(()) => Ok(LogPair::new(1, headers.after.one, headers.after.two)),
         Err(Failed) => Err(Failed),
     }
 }

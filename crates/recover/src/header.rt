@@ -6,6 +6,7 @@ ghost use Rattle.std.specs.Prelude.{◌≡◌, ◌⊎◌, ◌+◌, ◌%◌, ◌<
 ghost use Rattle.disk_face.specs.Faults.{Counts};
 ghost use Rattle.disk_face.specs.Stays.{OnlyWrites};
 ghost use Rattle.disk_face.specs.declared.disk.File.{File as Files};
+ghost use Rattle.disk_face.specs.declared.disk.File.TheVariants.{Log1, Log2};
 ghost use Rattle.page_spec.specs.Header.{is_page_size};
 ghost use Rattle.log_spec.specs.LogHeader.{LogFields, log_fields, is_generation, last_generation};
 ghost use Rattle.wal_frames.specs.Front.{fields_for, IsLegalFront};
@@ -13,7 +14,7 @@ ghost use Rattle.wal_frames.specs.Found.{log_file};
 ghost use Rattle.crash_spec.specs.Marks.{other_of};
 ghost use Rattle.crash_spec.specs.Opening.{Since};
 ghost use Rattle.crash_spec.specs.Passes.{Passes, WhereDone};
-ghost use Rattle.opening_spec.specs.Found.{FoundLog, OpeningView, IsNextHeader, found_log};
+ghost use Rattle.opening_spec.specs.Found.{FoundLog, OpeningView, IsNextHeader, found_log, next_log};
 ghost use Rattle.opening_spec.specs.States.{IsResetting, HasReset, IsSettled, LeavesMap, header1_of, header2_of};
 ghost use Rattle.recover.specs.Headers.{last_salt, generation_in, next_even, first_of};
 ghost use Rattle.recover.specs.Seeing.{next_odd};
@@ -49,13 +50,7 @@ fn next_salt(front: &Front) -> u32
 }
 
 /// The next header of log 1 or log 2, which begins with `front`.
-pub(crate) fn next_header(
-    front: &Front,
-    log: u8,
-    page_size: u32,
-    generation: u32,
-    salt2: u32,
-) -> NewHeader
+fn next_header(front: &Front, log: u8, page_size: u32, generation: u32, salt2: u32) -> NewHeader
     requires which { (log ≡ 1) ⊎ (log ≡ 2) }
     requires page_size { IsTrue (is_page_size page_size) }
     requires generation { IsTrue (is_generation log generation) }
@@ -87,7 +82,7 @@ fn generation_of(front: &Front) -> u32
 }
 
 /// The greatest generation of a header of ours, 0 where there is none.
-pub(crate) fn newest_generation(one: &Front, two: &Front) -> u32
+fn newest_generation(one: &Front, two: &Front) -> u32
     ensures { result ≡ max (generation_in one.now) (generation_in two.now) }
 {
     let first = generation_of(one);
@@ -107,7 +102,7 @@ fn even_generation(newest: u32) -> u32
 }
 
 /// The least odd generation from two more than this one on.
-pub(crate) fn odd_generation(newest: u32) -> u32
+fn odd_generation(newest: u32) -> u32
     requires { newest + 3 ≤ last_generation }
     ensures odd { IsTrue (is_generation 1 result) }
     ensures least { result ≡ next_odd newest }
@@ -162,6 +157,43 @@ pub(crate) fn next_headers<W: Salts>(
             there,
         }
     }
+}
+
+/// The headers of an opening that makes a commit of its own.
+#[derive(Drop)]
+pub(crate) struct FirstHeaders {
+    /// That of log 1, behind which the commit goes.
+    pub(crate) commit: NewHeader,
+    /// Those that both logs get after it, log 2 first.
+    pub(crate) after: NewHeaders,
+}
+
+/// The headers of an opening that makes a commit of its own, where log 1 begins with `one` and log 2 with `two`.
+///
+/// Log 1 gets the least odd generation from two more than the greatest one on, and a first salt more; then both get theirs as
+/// `next_headers` says.
+pub(crate) fn first_headers<W: Salts>(
+    salts: &mut W,
+    one: &Front,
+    two: &Front,
+    page_size: u32,
+) -> FirstHeaders
+    requires page_size { IsTrue (is_page_size page_size) }
+    requires room { next_odd (max (generation_in one.now) (generation_in two.now)) + 4 ≤ last_generation }
+    ensures next { (has1 has2 : FoundLog) → has1.salt ≡ last_salt one.now % 2 ^ 32 → has2.salt ≡ last_salt two.now % 2 ^ 32 → has1.most ≡ 0 → has2.most ≡ 0
+        → IsNextHeader Log1 has1 result.commit.bytes × IsNextHeader Log2 has2 result.after.here.bytes × IsNextHeader Log1 (next_log has1) result.after.there.bytes }
+    ensures fields { log_fields result.commit.bytes ≡ fields_for result.commit.header }
+    ensures one { fields_for result.after.one ≡ log_fields result.after.there.bytes }
+    ensures two { fields_for result.after.two ≡ log_fields result.after.here.bytes }
+    ensures legal { IsLegalFront 1 (Ours result.commit.header) × IsLegalFront 1 (Ours result.after.one) × IsLegalFront 2 (Ours result.after.two) }
+    ensures sizes { (result.commit.header.page_size ≡ page_size) × (result.after.one.page_size ≡ page_size) × (result.after.two.page_size ≡ page_size) }
+    ensures generations { result.after.one.generation ≡ result.after.two.generation + 1 }
+    ensures loans { W.loans salts.new ≡ W.loans salts.old }
+{
+    let generation = odd_generation(newest_generation(one, two));
+    let commit = next_header(one, 1, page_size, generation, salts.word());
+    let after = next_headers(salts, &Front::Ours(commit.header), two, page_size);
+    FirstHeaders { commit, after }
 }
 
 /// Gives a log its new header, and has it reach the medium.

@@ -1,32 +1,17 @@
-use Rattle.std.proofs.Common.{◌≡◌, ◌+◌, ℕ, ◌∙◌, ap, arith}
-use Rattle.disk_face.specs.declared.disk.File.TheVariants.{Log2}
-use Rattle.opening_spec.specs.Found.{next_log}
+use Rattle.log_spec.specs.LogHeader.{log_fields}
 use Rattle.recover.specs.NewPages.{migrated}
-use Rattle.recover.specs.Seeing.{next_odd}
-use Rattle.recover.proofs.Readying.{migrated_some, new_ready, next_both, salt_then, room_for, two_is_first}
+use Rattle.recover.proofs.Readying.{migrated_some, new_ready}
 use Rattle.recover.proofs.begin.settle_migrated.Goals as goal
 
 pub returns-in-Ok-clause-moments : goal.returns-in-Ok-clause-moments
 returns-in-Ok-clause-moments g c view has1 has2 h sized none none1 seen some salt1 salt2 most1 most2 =
-    let later = migrated view.map in
-    let header = c.next_header-header.result in
-    let headers = c.next_headers-headers.result in
-    let e = c.next_headers-headers.ensures in
-    let first : headers.first ≡ Log2 = e.first ∙ two_is_first c.args.one.now c.args.two.now header.header (c.next_header-header.ensures.generation ∙ c.odd_generation-generation.ensures.least ∙ ap next_odd c.newest_generation.ensures) in
-    let next1 = c.next_header-header.ensures.next has1 salt1 (room_for has1 0 most1 (omega arith)) in
-    let both = next_both headers.first (next_log has1) has2 headers.here.bytes headers.there.bytes first
-    (e.next (next_log has1) has2 (salt_then has1 header.header header.bytes next1 c.next_header-header.ensures.fields) salt2 (room_for (next_log has1) 1 (ap (λ (n : ℕ). n + 1) most1) (omega arith)) (room_for has2 0 most2 (omega arith))) in
-    new_ready view later headers.first headers.one headers.two c.new.result headers.here.bytes headers.there.bytes _ _ first c.new.ensures e.one e.two
-    (migrated_some view.map some)
-    (c.in-Ok.ensures.moments view has1 has2 h sized none none1 seen next1 both.0 both.1)
+    let after = c.first_headers-headers.result.after in
+    let e = c.first_headers-headers.ensures in
+    let next = e.next has1 has2 salt1 salt2 most1 most2 in
+    new_ready view (migrated view.map) after.one after.two c.new.result (log_fields after.there.bytes) (log_fields after.here.bytes) _ _ c.new.ensures e.one e.two (migrated_some view.map some)
+    (c.in-Ok.ensures.moments view has1 has2 h sized none none1 seen next.0 next.1 next.2)
 
 pub returns-in-Err-clause-moments : goal.returns-in-Err-clause-moments
 returns-in-Err-clause-moments g c view has1 has2 h sized none none1 seen some salt1 salt2 most1 most2 =
-    let header = c.next_header-header.result in
-    let headers = c.next_headers-headers.result in
-    let e = c.next_headers-headers.ensures in
-    let first : headers.first ≡ Log2 = e.first ∙ two_is_first c.args.one.now c.args.two.now header.header (c.next_header-header.ensures.generation ∙ c.odd_generation-generation.ensures.least ∙ ap next_odd c.newest_generation.ensures) in
-    let next1 = c.next_header-header.ensures.next has1 salt1 (room_for has1 0 most1 (omega arith)) in
-    let both = next_both headers.first (next_log has1) has2 headers.here.bytes headers.there.bytes first
-    (e.next (next_log has1) has2 (salt_then has1 header.header header.bytes next1 c.next_header-header.ensures.fields) salt2 (room_for (next_log has1) 1 (ap (λ (n : ℕ). n + 1) most1) (omega arith)) (room_for has2 0 most2 (omega arith))) in
-    c.in-Err.ensures.moments view has1 has2 h sized none none1 seen next1 both.0 both.1
+    let next = c.first_headers-headers.ensures.next has1 has2 salt1 salt2 most1 most2 in
+    c.in-Err.ensures.moments view has1 has2 h sized none none1 seen next.0 next.1 next.2
