@@ -23,7 +23,7 @@ use Rattle.opening_spec.specs.Found.{OpeningView, FoundLog, IsNextHeader, NamesI
 use Rattle.opening_spec.specs.States.{AreSynced, IsLaidDown, IsResetting, HasReset, IsFounding, LeavesMap, LeavesEither}
 use Rattle.opening_spec.proofs.Founding.{founding_begins}
 use Rattle.opening_spec.proofs.Settling.{begins_resetting}
-use Rattle.recover.specs.Founding.{IsCommitting, HasCommitted, HasFounded, Commits, CommitsPages, FailsToCommit, Founds, FoundsPages, FailsToFound, later_view, with_first}
+use Rattle.recover.specs.Founding.{IsCommitting, HasFirstCommit, HasFounded, Commits, CommitsPages, FailsToCommit, Founds, FoundsPages, FailsToFound, later_view, with_first}
 use Rattle.recover.proofs.Resets.{header_passes}
 
 -- what holds of the files now holds in the state too
@@ -87,8 +87,8 @@ founds_pages bytes pair fresh page count size old mid new is begins (frames, hol
   long,
   λ view later main one two makes h next none main_is.
       let first = begins view later main one two h next none main_is in
-      let second = subst (λ (p : PairView). Commits p page count size (λ view map main one two. HasCommitted view map main one two frames) mid new) is commits view later main (next_log one) two (λ k. makes) first.holds in
-      passes_join view.opening (LeavesEither view later) (λ told. IsCommitting view later main fresh (next_log one) two [] told) (λ told. HasCommitted view later main (next_log one) two frames told) old mid new first second,
+      let second = subst (λ (p : PairView). Commits p page count size (λ view map main one two. HasFirstCommit view map main one two frames) mid new) is commits view later main (next_log one) two (λ k. makes) first.holds in
+      passes_join view.opening (LeavesEither view later) (λ told. IsCommitting view later main fresh (next_log one) two [] told) (λ told. HasFirstCommit view later main (next_log one) two frames told) old mid new first second,
 )
 
 pub fails_founding : (bytes : List ℕ) (pair fresh : PairView) (page : ℕ → List ℕ) (count size : ℕ) (old mid new : Option History) → pair ≡ fresh
@@ -112,9 +112,9 @@ main_long opening P main (Some told) is (since, grew, p) =
     ap (λ (files : Files). length files.main) (ap reads grew ∙ rebased_reads opening.start since) ∙ ap (λ (bytes : List ℕ). length bytes) (is (rebased opening.start since) p)
 
 module _ (view : OpeningView) (later : PageMap) (main : List ℕ) (one two : FoundLog) (frames : List Frame) (old mid new : Option History)
-    (first : Passes view.opening (LeavesEither view later) (HasCommitted view later main one two frames) old mid) where
+    (first : Passes view.opening (LeavesEither view later) (HasFirstCommit view later main one two frames) old mid) where
   abbrev Committed : History → Type 0
-  Committed told = HasCommitted view later main one two frames told
+  Committed told = HasFirstCommit view later main one two frames told
 
   pub synced_then : Since view.opening.start (AreSynced (later_view view later main) (with_first one frames) two) mid
   synced_then = since_weaker view.opening.start Committed (λ told. AreSynced (later_view view later main) (with_first one frames) two told) (λ told c. c.synced) mid first.holds

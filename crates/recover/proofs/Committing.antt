@@ -27,7 +27,7 @@ use Rattle.opening_spec.specs.Found.{OpeningView, FoundLog}
 use Rattle.opening_spec.specs.States.{AreSynced, IsFounding, LeavesEither}
 use Rattle.opening_spec.proofs.Founding.{founding_images, founding_wrote, founding_refused, founded}
 use Rattle.opening_spec.proofs.Synced.{synced_images}
-use Rattle.recover.specs.Founding.{HoldFrom, IsCommitting, HasCommitted, AppendsPages, CommitsPages, FailsToCommit, later_view, with_first}
+use Rattle.recover.specs.Founding.{HoldFrom, IsCommitting, HasFirstCommit, AppendsPages, CommitsPages, FailsToCommit, later_view, with_first}
 use Rattle.recover.proofs.FirstPages.{hold_push, once_more}
 
 last_push : (frames : List Frame) (frame : Frame) → last_size (frames ++ frame ∷ []) ≡ commit_size frame
@@ -208,7 +208,7 @@ module _ (view : OpeningView) (later : PageMap) (main : List ℕ) (pair : PairVi
   Open told = IsCommitting view later main pair one two frames told
 
   abbrev Sealed : History → Type 0
-  Sealed told = HasCommitted view later main one two frames told
+  Sealed told = HasFirstCommit view later main one two frames told
 
   abbrev LeavesSome : History → Files → Type 0
   LeavesSome told image = LeavesEither view later told image
@@ -249,7 +249,7 @@ commits_all pair later_pair sealed page count size old near new some first (fram
   long,
   λ view later main one two makes h.
       let before = commits view later main one two makes h in
-      passes_join view.opening (LeavesEither view later) (λ told. IsCommitting view later main later_pair one two frames told) (λ told. HasCommitted view later main one two frames told) old near new before
+      passes_join view.opening (LeavesEither view later) (λ told. IsCommitting view later main later_pair one two frames told) (λ told. HasFirstCommit view later main one two frames told) old near new before
       (seal_goes view later main later_pair one two frames (λ none. some (sym ends ∙ none)) first true near new is.step before.holds),
 )
 

@@ -12,7 +12,7 @@ use Rattle.opening_spec.specs.Found.{OpeningView, FoundLog, IsNextHeader, next_l
 use Rattle.opening_spec.specs.States.{AreSynced, IsLaidDown, IsResetting, LeavesMap, LeavesEither}
 use Rattle.recover.specs.declared.setup.StoreKind.{StoreKind}
 use Rattle.recover.specs.NewPages.{new_count, new_first_page, new_pages, first_then_zeros}
-use Rattle.recover.specs.Founding.{HoldFrom, MakesMap, HasCommitted, HasFounded, FoundsPages, FailsToFound, later_view, with_first}
+use Rattle.recover.specs.Founding.{HoldFrom, MakesMap, HasFirstCommit, HasFounded, FoundsPages, FailsToFound, later_view, with_first}
 use Rattle.recover.proofs.NewPages.{makes_pages, new_length, new_names, new_some}
 use Rattle.recover.proofs.Beginnings.{synced_then, long_then, founded_all, founded_not}
 
@@ -46,7 +46,7 @@ module _ (view : OpeningView) (one two : FoundLog) (kind : StoreKind) (bytes fir
     abbrev frames : List Frame
     frames = made.0
 
-    committed : Passes view.opening (LeavesEither view later) (HasCommitted view later [] (next_log one) two frames) old mid
+    committed : Passes view.opening (LeavesEither view later) (HasFirstCommit view later [] (next_log one) two frames) old mid
     committed = made.3 view later [] one two makes h next none (both_now [] view.size old empty big)
 
     lays : (ok : Bool) → LaysFirst ok again pages mid new

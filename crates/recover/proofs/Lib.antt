@@ -10,3 +10,5 @@ mod FoundsNew
 mod Readying
 mod Migrating
 mod SeenFiles
+pub mod Begun
+pub mod NewAccepted

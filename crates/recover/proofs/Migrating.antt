@@ -23,7 +23,7 @@ use Rattle.opening_spec.specs.States.{AreSynced, IsLaidDown, IsResetting, Leaves
 use Rattle.opening_spec.proofs.Laid.{header-take, page_1_is}
 use Rattle.opening_spec.proofs.Reset.{written_images}
 use Rattle.recover.specs.NewPages.{first_then_zeros, with_versions, migrated}
-use Rattle.recover.specs.Founding.{HoldFrom, MakesMap, HasCommitted, HasFounded, HasMigrated, FoundsPages, FailsToFound, later_view, with_first}
+use Rattle.recover.specs.Founding.{HoldFrom, MakesMap, HasFirstCommit, HasFounded, HasMigrated, FoundsPages, FailsToFound, later_view, with_first}
 use Rattle.recover.proofs.FirstPages.{hold_page, size_of, either_page}
 use Rattle.recover.proofs.Beginnings.{synced_then, long_then, founded_all, founded_not}
 use Rattle.recover.proofs.FoundsNew.{LaysFirst}
@@ -271,7 +271,7 @@ module _ (view : OpeningView) (one two : FoundLog) (bytes first : List ℕ) (siz
     abbrev one' : FoundLog
     one' = with_first (next_log one) made.0
 
-    committed : Passes view.opening (LeavesEither view later) (HasCommitted view later main (next_log one) two made.0) (Some told) mid
+    committed : Passes view.opening (LeavesEither view later) (HasFirstCommit view later main (next_log one) two made.0) (Some told) mid
     committed = made.3 view later main one two (makes told t) t.0 next none (refl, big)
 
     lays : (ok : Bool) → LaysFirst ok first 1 mid new → Passes view.opening (LeavesMap (later_view view later main)) (ByAnswer ok (IsLaidDown (later_view view later main) one' two (1 + 1)) (AreSynced (later_view view later main) one' two)) mid new

@@ -42,7 +42,7 @@ abbrev pub with_first : FoundLog → List Frame → FoundLog
 with_first one frames = record { frames = frames; salt = one.salt; most = one.most }
 
 -- The first commit is on the medium.
-pub record HasCommitted (view : OpeningView) (later : PageMap) (main : List ℕ) (one two : FoundLog) (frames : List Frame) (told : History) : Type 0 where
+pub record HasFirstCommit (view : OpeningView) (later : PageMap) (main : List ℕ) (one two : FoundLog) (frames : List Frame) (told : History) : Type 0 where
   pub synced : AreSynced (later_view view later main) (with_first one frames) two told
   pub main_is : (reads told).main ≡ main
   pub none : two.frames ≡ []
@@ -64,7 +64,7 @@ AppendsPages pair later page count size old new =
 abbrev pub CommitsPages : (pair : PairView) (page : ℕ → List ℕ) (count size : ℕ) → Option History → Option History → Type 0
 CommitsPages pair page count size old new =
     (frames : List Frame) × HoldFrom page 1 frames × (length frames ≡ count)
-    × Commits pair page count size (λ view map main one two. HasCommitted view map main one two frames) old new
+    × Commits pair page count size (λ view map main one two. HasFirstCommit view map main one two frames) old new
 
 -- A call of it failed.
 abbrev pub FailsToCommit : (pair : PairView) (page : ℕ → List ℕ) (count size : ℕ) → Option History → Option History → Type 0
@@ -90,7 +90,7 @@ FoundsMap bytes page count size Then old new =
 abbrev pub FoundsPages : (bytes : List ℕ) (page : ℕ → List ℕ) (count size : ℕ) → Option History → Option History → Type 0
 FoundsPages bytes page count size old new =
     (frames : List Frame) × HoldFrom page 1 frames × (length frames ≡ count)
-    × FoundsMap bytes page count size (λ view map main one two. HasCommitted view map main one two frames) old new
+    × FoundsMap bytes page count size (λ view map main one two. HasFirstCommit view map main one two frames) old new
 
 -- A call of it failed.
 abbrev pub FailsToFound : (bytes : List ℕ) (page : ℕ → List ℕ) (count size : ℕ) → Option History → Option History → Type 0

@@ -64,6 +64,7 @@ fn append_pages<D: Disk>(
     while number < pages {
         match pair.append(disk, number, buf, 0) {
             Ok(()) => {
+                // All pages behind the first are zero.
                 wipe(buf);
                 number += 1;
             }
