@@ -17,3 +17,13 @@ mod Judged
 pub mod SeenLaws
 pub mod SeenPages
 pub mod First
+mod FirstPages
+mod Committing
+mod Beginnings
+mod NewPages
+mod FoundsNew
+mod Readying
+mod Migrating
+mod SeenFiles
+pub mod Begun
+pub mod NewAccepted

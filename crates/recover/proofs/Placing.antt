@@ -233,3 +233,23 @@ counted_places view one two places None None seen passes = record { each_moment 
 counted_places view one two places None (Some new) seen passes = absurd passes.each_moment
 counted_places view one two places (Some old) new seen passes =
     subst (λ (n : ℕ). Passes view.opening (LeavesMap view) (IsLaidDown view one two (n + 1)) (Some old) new) seen.count passes
+
+-- Main reaches as far still
+pub reached_still : (at : ℕ) (old new : Option History) → OnlyMain old new → IsInside old Main at 0 → IsInside new Main at 0
+reached_still at None None only inside = tt
+reached_still at None (Some new) only inside = absurd only
+reached_still at (Some old) None only inside = absurd only
+reached_still at (Some old) (Some new) (is1, is2, longer) inside = omega arith
+
+-- what doesn't go by the files is said still
+pub said_only : (X : Type 0) (old new : Option History) → OnlyMain old new → IfSome old (λ told. X) → IfSome new (λ told. X)
+said_only X None None only x = tt
+said_only X None (Some new) only x = absurd only
+said_only X (Some old) None only x = tt
+said_only X (Some old) (Some new) only x = x
+
+pub said_same : (X : Type 0) (old new : Option History) → SameReads old new → IfSome old (λ told. X) → IfSome new (λ told. X)
+said_same X None None same x = tt
+said_same X None (Some new) same x = absurd same
+said_same X (Some old) None same x = tt
+said_same X (Some old) (Some new) same x = x

@@ -1,6 +1,7 @@
 -- A log's new header was written and synced, or one of both calls failed.
 use Rattle.std.proofs.lemmas.Bool.Decides.{nat_tests}
 use Rattle.recover.specs.Headers.{next_even}
+use Rattle.recover.specs.Seeing.{next_odd}
 use Rattle.std.proofs.Common.{arith, ◌≤◌, ◌≡◌, ◌⊎◌, inl, inr, ℕ, ◌+◌, ◌%◌, ◌^◌, ◌<◌, Bool, true, false, List, Option, refl, sym, ◌∙◌, ap, subst}
 use Rattle.disk_face.specs.declared.disk.File.{File}
 use Rattle.disk_face.specs.Steps.{History}
@@ -29,17 +30,20 @@ header_passes false view log one two beside bytes next old new h (inr wrote) = h
 
 -- a header that was signed is a next one
 pub next_is : (log : ℕ) (has : FoundLog) (header : LogFields) (bytes : List ℕ) (last : ℕ) → (log ≡ 1) ⊎ (log ≡ 2) → IsHeaderOf log header bytes
-    → has.salt ≡ last → header.salt1 ≡ (last + 1) % 2 ^ 32 → has.most + 1 < 2 ^ 32 → IsNextHeader (log_file log) has bytes
+    → has.salt ≡ last % 2 ^ 32 → header.salt1 ≡ (last + 1) % 2 ^ 32 → has.most + 1 < 2 ^ 32 → IsNextHeader (log_file log) has bytes
 next_is log has header bytes last which is same salt few =
     let at = log_is log which in
     record {
       is_log = at.0;
       long = is.whole;
       ours = subst (λ (n : ℕ). IsOurs n bytes) (sym at.1) is.ours;
-      salt = ap (λ (fields : LogFields). fields.salt1) is.told ∙ salt ∙ ap (λ (n : ℕ). (n + 1) % 2 ^ 32) (sym same);
+      salt = ap (λ (fields : LogFields). fields.salt1) is.told ∙ salt ∙ rest last ∙ ap (λ (n : ℕ). (n + 1) % 2 ^ 32) (sym same);
       few = few;
     }
   where
+    rest : (n : ℕ) → (n + 1) % 2 ^ 32 ≡ (n % 2 ^ 32 + 1) % 2 ^ 32
+    rest n = omega arith
+
     log_is : (log : ℕ) → (log ≡ 1) ⊎ (log ≡ 2) → IsLog (log_file log) × (number_of (log_file log) ≡ log)
     log_is log (inl is) = subst (λ (n : ℕ). IsLog (log_file n) × (number_of (log_file n) ≡ n)) (sym is) (tt, refl)
     log_is log (inr is) = subst (λ (n : ℕ). IsLog (log_file n) × (number_of (log_file n) ≡ n)) (sym is) (tt, refl)
@@ -58,3 +62,8 @@ next_even_is newest room = grind (arith, nat_tests)
 pub next_odd_is : (newest : ℕ) → newest + 4 ≤ last_generation → is_generation 1 (next_even newest + 1) ≡ true
 unfolding is_generation
 next_odd_is newest room = grind (arith, nat_tests)
+
+-- and that of a first header of log 1
+pub first_odd_is : (newest : ℕ) → newest + 3 ≤ last_generation → is_generation 1 (next_odd newest) ≡ true
+unfolding is_generation
+first_odd_is newest room = grind (arith, nat_tests)

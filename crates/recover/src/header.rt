@@ -6,6 +6,7 @@ ghost use Rattle.std.specs.Prelude.{◌≡◌, ◌⊎◌, ◌+◌, ◌%◌, ◌<
 ghost use Rattle.disk_face.specs.Faults.{Counts};
 ghost use Rattle.disk_face.specs.Stays.{OnlyWrites};
 ghost use Rattle.disk_face.specs.declared.disk.File.{File as Files};
+ghost use Rattle.disk_face.specs.declared.disk.File.TheVariants.{Log1, Log2};
 ghost use Rattle.page_spec.specs.Header.{is_page_size};
 ghost use Rattle.log_spec.specs.LogHeader.{LogFields, log_fields, is_generation, last_generation};
 ghost use Rattle.wal_frames.specs.Front.{fields_for, IsLegalFront};
@@ -13,9 +14,11 @@ ghost use Rattle.wal_frames.specs.Found.{log_file};
 ghost use Rattle.crash_spec.specs.Marks.{other_of};
 ghost use Rattle.crash_spec.specs.Opening.{Since};
 ghost use Rattle.crash_spec.specs.Passes.{Passes, WhereDone};
-ghost use Rattle.opening_spec.specs.Found.{FoundLog, OpeningView, IsNextHeader, found_log};
+ghost use Rattle.opening_spec.specs.Found.{FoundLog, OpeningView, IsNextHeader, found_log, next_log};
 ghost use Rattle.opening_spec.specs.States.{IsResetting, HasReset, IsSettled, LeavesMap, header1_of, header2_of};
 ghost use Rattle.recover.specs.Headers.{last_salt, generation_in, next_even, first_of};
+ghost use Rattle.recover.specs.Seeing.{next_odd};
+ghost use Rattle.wal_frames.specs.declared.header.Front.TheVariants.{Ours};
 
 use disk_face::{Disk, Failed, File, Salts};
 use log_pair::NewHeader;
@@ -30,6 +33,9 @@ pub(crate) struct NewHeaders {
     /// The other log, and its header.
     pub(crate) second: File,
     pub(crate) there: NewHeader,
+    /// What the headers of log 1 and of log 2 tell.
+    pub(crate) one: LogHeader,
+    pub(crate) two: LogHeader,
 }
 
 /// The first salt of a log's next header: one more than the last, from 1 on where the log has no header of ours.
@@ -44,17 +50,11 @@ fn next_salt(front: &Front) -> u32
 }
 
 /// The next header of log 1 or log 2, which begins with `front`.
-pub(crate) fn next_header(
-    front: &Front,
-    log: u8,
-    page_size: u32,
-    generation: u32,
-    salt2: u32,
-) -> NewHeader
+fn next_header(front: &Front, log: u8, page_size: u32, generation: u32, salt2: u32) -> NewHeader
     requires which { (log ≡ 1) ⊎ (log ≡ 2) }
     requires page_size { IsTrue (is_page_size page_size) }
     requires generation { IsTrue (is_generation log generation) }
-    ensures next { (has : FoundLog) → has.salt ≡ last_salt front.now → has.most + 1 < 2 ^ 32 → IsNextHeader (log_file log) has result.bytes }
+    ensures next { (has : FoundLog) → has.salt ≡ last_salt front.now % 2 ^ 32 → has.most + 1 < 2 ^ 32 → IsNextHeader (log_file log) has result.bytes }
     ensures fields { log_fields result.bytes ≡ fields_for result.header }
     ensures legal { IsLegalFront log (Front.Ours result.header) }
     ensures page_size { result.header.page_size ≡ page_size }
@@ -101,6 +101,15 @@ fn even_generation(newest: u32) -> u32
     newest + 2 + newest % 2
 }
 
+/// The least odd generation from two more than this one on.
+fn odd_generation(newest: u32) -> u32
+    requires { newest + 3 ≤ last_generation }
+    ensures odd { IsTrue (is_generation 1 result) }
+    ensures least { result ≡ next_odd newest }
+{
+    newest + 3 - newest % 2
+}
+
 /// The headers that both logs get next, where log 1 begins with `one` and log 2 with `two`.
 ///
 /// Log 2 gets the least even generation from two more than the greatest one on, log 1 the one after it. The log of lower generation, or
@@ -115,8 +124,13 @@ pub(crate) fn next_headers<W: Salts>(
     requires room { max (generation_in one.now) (generation_in two.now) + 4 ≤ last_generation }
     ensures first { result.first ≡ first_of one.now two.now }
     ensures second { result.second ≡ other_of result.first }
-    ensures next { (has1 has2 : FoundLog) → has1.salt ≡ last_salt one.now → has2.salt ≡ last_salt two.now → has1.most + 1 < 2 ^ 32 → has2.most + 1 < 2 ^ 32
+    ensures next { (has1 has2 : FoundLog) → has1.salt ≡ last_salt one.now % 2 ^ 32 → has2.salt ≡ last_salt two.now % 2 ^ 32 → has1.most + 1 < 2 ^ 32 → has2.most + 1 < 2 ^ 32
         → IsNextHeader result.first (found_log result.first has1 has2) result.here.bytes × IsNextHeader (other_of result.first) (found_log (other_of result.first) has1 has2) result.there.bytes }
+    ensures one { fields_for result.one ≡ header1_of result.first (log_fields result.here.bytes) (log_fields result.there.bytes) }
+    ensures two { fields_for result.two ≡ header2_of result.first (log_fields result.here.bytes) (log_fields result.there.bytes) }
+    ensures legal { IsLegalFront 1 (Ours result.one) × IsLegalFront 2 (Ours result.two) }
+    ensures sizes { (result.one.page_size ≡ page_size) × (result.two.page_size ≡ page_size) }
+    ensures generations { result.one.generation ≡ result.two.generation + 1 }
     ensures loans { W.loans salts.new ≡ W.loans salts.old }
 {
     let even = even_generation(newest_generation(one, two));
@@ -125,8 +139,10 @@ pub(crate) fn next_headers<W: Salts>(
         let there = next_header(two, 2, page_size, even, salts.word());
         NewHeaders {
             first: File::Log1,
+            one: here.header,
             here,
             second: File::Log2,
+            two: there.header,
             there,
         }
     } else {
@@ -134,11 +150,50 @@ pub(crate) fn next_headers<W: Salts>(
         let there = next_header(one, 1, page_size, even + 1, salts.word());
         NewHeaders {
             first: File::Log2,
+            two: here.header,
             here,
             second: File::Log1,
+            one: there.header,
             there,
         }
     }
+}
+
+/// The headers of an opening that makes a commit of its own.
+#[derive(Drop)]
+pub(crate) struct FirstHeaders {
+    /// That of log 1, behind which the commit goes.
+    pub(crate) commit: NewHeader,
+    /// Those that both logs get after it, log 2 first.
+    pub(crate) after: NewHeaders,
+}
+
+/// The headers of an opening that makes a commit of its own, where log 1 begins with `one` and log 2 with `two`.
+///
+/// Log 1 gets the least odd generation from two more than the greatest one on, and a first salt more; then both get theirs as
+/// `next_headers` says.
+pub(crate) fn first_headers<W: Salts>(
+    salts: &mut W,
+    one: &Front,
+    two: &Front,
+    page_size: u32,
+) -> FirstHeaders
+    requires page_size { IsTrue (is_page_size page_size) }
+    requires room { next_odd (max (generation_in one.now) (generation_in two.now)) + 4 ≤ last_generation }
+    ensures next { (has1 has2 : FoundLog) → has1.salt ≡ last_salt one.now % 2 ^ 32 → has2.salt ≡ last_salt two.now % 2 ^ 32 → has1.most ≡ 0 → has2.most ≡ 0
+        → IsNextHeader Log1 has1 result.commit.bytes × IsNextHeader Log2 has2 result.after.here.bytes × IsNextHeader Log1 (next_log has1) result.after.there.bytes }
+    ensures fields { log_fields result.commit.bytes ≡ fields_for result.commit.header }
+    ensures one { fields_for result.after.one ≡ log_fields result.after.there.bytes }
+    ensures two { fields_for result.after.two ≡ log_fields result.after.here.bytes }
+    ensures legal { IsLegalFront 1 (Ours result.commit.header) × IsLegalFront 1 (Ours result.after.one) × IsLegalFront 2 (Ours result.after.two) }
+    ensures sizes { (result.commit.header.page_size ≡ page_size) × (result.after.one.page_size ≡ page_size) × (result.after.two.page_size ≡ page_size) }
+    ensures generations { result.after.one.generation ≡ result.after.two.generation + 1 }
+    ensures loans { W.loans salts.new ≡ W.loans salts.old }
+{
+    let generation = odd_generation(newest_generation(one, two));
+    let commit = next_header(one, 1, page_size, generation, salts.word());
+    let after = next_headers(salts, &Front::Ours(commit.header), two, page_size);
+    FirstHeaders { commit, after }
 }
 
 /// Gives a log its new header, and has it reach the medium.

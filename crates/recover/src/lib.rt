@@ -6,18 +6,22 @@
 //! began, and which state the files are in then.
 #![tactic(auto)]
 
+mod begin;
+mod founding;
 mod header;
 mod inspect;
 mod judge;
+mod new_pages;
 mod pages;
 mod place;
 mod places;
 mod scan;
 mod seen;
-mod settle;
+mod settling;
 mod setup;
 mod sync;
 
 pub use inspect::look;
 pub use seen::{LookFault, Seen};
+pub use settling::settle;
 pub use setup::{Setup, StoreKind};

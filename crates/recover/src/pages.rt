@@ -21,7 +21,7 @@ use crate::place::Place;
 use disk_face::{Disk, Failed, File};
 
 /// Writes a page of Main with the bytes that it has in the recovered map. Nothing is synced.
-fn write_page<D: Disk>(disk: &mut D, number: u32, bytes: &[u8]) -> Result<(), Failed>
+pub(crate) fn write_page<D: Disk>(disk: &mut D, number: u32, bytes: &[u8]) -> Result<(), Failed>
     requires attached { D.attached disk.old ≡ true }
     requires number { 1 ≤ number }
     requires small { length bytes.now ≤ 65536 }
@@ -106,6 +106,7 @@ fn write_pages<D: Disk>(disk: &mut D, places: &[Place], buf: &mut [u8]) -> Resul
         → IfSome (D.told disk.old) (λ told. ArePlacesOf view one two (reads told) places.now)
         → Passes view.opening (LeavesMap view) (ByAnswer (is_ok result) (IsWriting view one two (length places.now + 1)) (AreSynced view one two)) (D.told disk.old) (D.told disk.new) }
     ensures only { OnOk result (OnlyMain (D.told disk.old) (D.told disk.new)) }
+    ensures reached { OnOk result (IsInside (D.told disk.new) Main (length places.now * length buf.old) 0) }
     ensures stays { OnlyWrites D.DiskTells disk.old disk.new }
     ensures faults { Counts (is_ok result) (D.faults disk.old) (D.faults disk.new) }
 {
@@ -120,7 +121,7 @@ fn write_pages<D: Disk>(disk: &mut D, places: &[Place], buf: &mut [u8]) -> Resul
 }
 
 /// Has the pages that were written reach the medium.
-fn sync_main<D: Disk>(disk: &mut D) -> Result<(), Failed>
+pub(crate) fn sync_main<D: Disk>(disk: &mut D) -> Result<(), Failed>
     requires attached { D.attached disk.old ≡ true }
     ensures moments { (view : OpeningView) (one two : FoundLog) (next : ℕ) → Since view.opening.start (IsWriting view one two next) (D.told disk.old)
         → Passes view.opening (LeavesMap view) (ByAnswer (is_ok result) (IsLaidDown view one two next) (AreSynced view one two)) (D.told disk.old) (D.told disk.new) }
@@ -144,6 +145,7 @@ fn write_main<D: Disk>(disk: &mut D, places: &[Place], buf: &mut [u8]) -> Result
         → IfSome (D.told disk.old) (λ told. AreSeen view one two places.now (reads told))
         → Passes view.opening (LeavesMap view) (ByAnswer (is_ok result) (IsLaidDown view one two (length view.map + 1)) (AreSynced view one two)) (D.told disk.old) (D.told disk.new) }
     ensures only { OnOk result (OnlyMain (D.told disk.old) (D.told disk.new)) }
+    ensures reached { OnOk result (IsInside (D.told disk.new) Main (length places.now * length buf.old) 0) }
     ensures stays { OnlyWrites D.DiskTells disk.old disk.new }
     ensures faults { Counts (is_ok result) (D.faults disk.old) (D.faults disk.new) }
 {
@@ -172,6 +174,8 @@ pub(crate) fn lay_down<D: Disk>(
         → (some_frames ≡ false → (one.frames ≡ []) × (two.frames ≡ [])) → (some_frames ≡ true → IfSome (D.told disk.old) (λ told. AreSeen view one two places.now (reads told)))
         → IsLog first → IfSome (D.told disk.old) (λ told. IsFirst (reads told) first one two)
         → Passes view.opening (LeavesMap view) (ByAnswer (is_ok result) (IsResetting view first one two None) (AreSynced view one two)) (D.told disk.old) (D.told disk.new) }
+    ensures only { OnOk result (OnlyMain (D.told disk.old) (D.told disk.new)) }
+    ensures reached { OnOk result ((some_frames ≡ false → IsInside (D.told disk.old) Main (length places.now * length buf.old) 0) → IsInside (D.told disk.new) Main (length places.now * length buf.old) 0) }
     ensures stays { OnlyWrites D.DiskTells disk.old disk.new }
     ensures faults { Counts (is_ok result) (D.faults disk.old) (D.faults disk.new) }
 {

@@ -66,3 +66,9 @@ returns-clause-stays g c = c.loop-index.invariant.stays
 
 pub returns-clause-faults : goal.returns-clause-faults
 returns-clause-faults g c = c.loop-index.invariant.faults
+
+pub returns-clause-reached : goal.returns-clause-reached
+returns-clause-reached g c =
+    let i = c.loop-index.invariant in
+    let all : c.loop-index.index ≡ length c.args.places.now = omega (arith, i.within) in
+    subst (λ (n : ℕ). IsInside (g.D.DiskTells.told c.loop-index.disk) Main (n * length c.args.buf.now) 0) all i.reached

@@ -5,7 +5,7 @@ use Rattle.opening_spec.specs.States.{AreSynced, IsResetting, IsSettled, header1
 use Rattle.opening_spec.proofs.Settling.{opening_then, opening_failed}
 use Rattle.recover.specs.Places.{FitPlaces, AreSeen}
 use Rattle.recover.proofs.Placing.{said_still}
-use Rattle.recover.proofs.settle.settle_files.Goals as goal
+use Rattle.recover.proofs.settling.settle_files.Goals as goal
 
 pub returns-in-Ok-reset_logs-clause-moments : goal.returns-in-Ok-reset_logs-clause-moments
 returns-in-Ok-reset_logs-clause-moments g c view one two h sized none seen is next after =
