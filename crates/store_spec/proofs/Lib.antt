@@ -33,3 +33,4 @@ pub mod SwitchPins
 pub mod SwitchLive
 pub mod SwitchRuns
 pub mod SwitchLaws
+pub mod SteadyLaws
