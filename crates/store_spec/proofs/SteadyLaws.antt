@@ -20,7 +20,7 @@ use Rattle.wal_index.specs.Index.{Indexed}
 use Rattle.log_pair.specs.Pair.{PairView, current_file, current_header, switched_pair}
 use Rattle.log_pair.specs.Switch.{next_header}
 use Rattle.log_commit.specs.Commit.{IsCommitStep, AreFramesOf, page_under}
-use Rattle.store_spec.specs.Store.{StoreData, KeptStop, current_read, other_read, since_of, other_since_of}
+use Rattle.store_spec.specs.Store.{StoreData, KeptStop, current_read, other_read, since_of, other_since_of, two_logs}
 use Rattle.store_spec.specs.Named.{AreNamed}
 use Rattle.store_spec.specs.Pins.{PinHolds, IsOfCurrent, IsFront, IsOlderFront, mark_at}
 use Rattle.store_spec.specs.Reading.{current_pages}
@@ -178,3 +178,119 @@ module _ (kept : StoreData) (images : List PageImage) (pair : PairView) (index :
         begun = λ none. begun_after kept (committed kept pair index commit) commit goes;
         smaller = steady.smaller;
       }
+
+-- a commit whose writing failed
+module _ (kept : StoreData) (images : List PageImage) (pair : PairView) (stop : KeptStop) (asked : Submitted) (commit : Commit) (readers : Readers) (pins : List Pin) where
+  named_stopped : (old new : Option History) → IsCommitting kept false images pair asked commit old new → (opening : Opening) → IsOpenedAt opening kept old → AreNamed old kept readers
+      → AreNamed new (stopped kept pair stop) readers
+  named_stopped None new c opening opened named =
+      subst (λ (t : Option History). AreNamed t (stopped kept pair stop) readers) (sym c.has.steps) (named_untold (stopped kept pair stop) readers)
+  named_stopped (Some told) new c opening opened named =
+      still_told (IsCommitStep (current_file kept.pair) (current_header kept.pair)) told (λ (t : Option History). AreNamed t (stopped kept pair stop) readers) new c.has.steps
+      (λ later is.
+      let goes = goes_stopped kept images pair stop asked commit (Some told) new c in
+      let read = (read_stopped opening kept images pair stop asked commit told later new c opened is).0 in
+      named_same kept (stopped kept pair stop) told later readers (record {
+        history = refl;
+        since = goes.since;
+        other_since = goes.other_since;
+        current = goes.pair.current;
+        page_size = refl;
+        main = read.main;
+        other = read.other;
+        frames = read.current ∙ append-nil (current_read kept.pair (reads told));
+      }) named)
+
+  -- The store is steady after it.
+  pub steady_stopped : (old new : Option History) → IsCommitting kept false images pair asked commit old new → IsLiveStore old kept readers pins → IsSteadyBut old kept readers pins
+      → IsSteady new (stopped kept pair stop) readers pins
+  steady_stopped old new c live steady = record {
+    named = named_stopped old new c live.opening live.opened steady.named;
+    frames = frames_stopped (AllName kept.page_size) kept images pair stop asked commit old new live.opening c live.opened steady.frames;
+    salts = salts_on kept.pair pair (pair_appended kept.pair pair c.has.writes.becomes).0 steady.salts;
+    begun = λ none. absurd (let some = none in cc);
+    smaller = steady.smaller;
+  }
+
+-- a store that has gone over to its other log
+named_gone : (kept : StoreData) (readers : Readers) (salt2 : ℕ) (sum : Sum) (index : Indexed) (old new : Option History) → IsWholeStore kept → IsAllowed kept readers → HasCleared kept index
+    → BothTold (FrontAlone kept.pair) old new → IfSome old (λ told. IsReady kept (reads told)) → AreNamed old kept readers
+    → AreNamed new (gone_over kept (switched_pair kept.pair (next_header kept.pair salt2 sum)) index) readers
+named_gone kept readers salt2 sum index None None whole allowed cleared alone ready named = named_untold (gone_over kept (switched_pair kept.pair (next_header kept.pair salt2 sum)) index) readers
+named_gone kept readers salt2 sum index None (Some later) whole allowed cleared alone ready named = absurd alone
+named_gone kept readers salt2 sum index (Some told) None whole allowed cleared alone ready named = absurd alone
+named_gone kept readers salt2 sum index (Some told) (Some later) whole allowed cleared alone ready named =
+    let header : LogFields = next_header kept.pair salt2 sum in
+    named_laws.named_over kept (gone_over kept (switched_pair kept.pair header) index) told later (record {
+      history = refl;
+      since = since_over kept readers whole allowed salt2 sum index cleared;
+      other_since = other_since_over kept readers whole allowed salt2 sum index cleared;
+      page_size = refl;
+      main = alone.main;
+      other = old_all kept.pair header whole.pair.which (reads later) ∙ current_alone kept.pair (reads told) (reads later) alone;
+      frames = new_none kept.pair header (reads later);
+      pages = ready.current_pages;
+      other_pages = ready.other_pages;
+      page_1 = ready.first;
+    }) whole readers named
+
+-- and one that failed in that
+named_failed : (kept : StoreData) (readers : Readers) (stop : KeptStop) (old new : Option History) → BothTold (FrontAlone kept.pair) old new → AreNamed old kept readers
+    → AreNamed new (stopped kept kept.pair stop) readers
+named_failed kept readers stop None None alone named = named_untold (stopped kept kept.pair stop) readers
+named_failed kept readers stop None (Some later) alone named = absurd alone
+named_failed kept readers stop (Some told) None alone named = absurd alone
+named_failed kept readers stop (Some told) (Some later) alone named =
+    named_same kept (stopped kept kept.pair stop) told later readers (record {
+      history = refl;
+      since = refl;
+      other_since = refl;
+      current = refl;
+      page_size = refl;
+      main = alone.main;
+      other = other_alone kept.pair (reads told) (reads later) alone;
+      frames = current_alone kept.pair (reads told) (reads later) alone;
+    }) named
+
+module _ (kept : StoreData) (readers : Readers) (pins : List Pin) (salt2 : ℕ) (old new : Option History) (live : IsLiveStore old kept readers pins) (none : kept.stop ≡ None) where
+  -- where it didn't go over, a pin of the current log needs it begun
+  pub kept_begun : IsSteady old kept readers pins → (pin : Pin) → Contains pins pin → IsOfCurrent kept pin → HasBegun kept
+  kept_begun steady pin there of = steady.begun none
+
+  module _ (steady : IsSteadyBut old kept readers pins) where
+    -- The switch was done.
+    module _ (may : may_switch (two_logs kept) readers kept.history ≡ true) (pair : PairView) (index : Indexed) (cleared : HasCleared kept index) (has : HasSwitched kept true pair salt2 old new) where
+      pub steady_gone : IsSteadyBut new (gone_over kept pair index) readers pins
+      steady_gone =
+          let may_go = allowed kept readers may in
+          subst (λ (p : PairView). IsSteadyBut new (gone_over kept p index) readers pins) (sym has.switches.becomes) (record {
+            named = named_gone kept readers salt2 has.sum index old new live.whole may_go cleared (switch_keeps true kept.pair has.bytes old new has.switches.is.whole has.switches.steps)
+                (files_ready kept readers none live.whole may_go live.opening old live.opened) steady.named;
+            frames = switch_live.named_over kept (next_header kept.pair salt2 has.sum) new;
+            salts = salts_switched kept.pair salt2 has.sum steady.salts;
+            smaller = steady.smaller;
+          })
+
+    -- The switch failed.
+    module _ (pair : PairView) (stop : KeptStop) (has : HasSwitched kept false pair salt2 old new) where
+      pub steady_failed : IsSteady new (stopped kept pair stop) readers pins
+      steady_failed =
+          let alone = switch_keeps false kept.pair has.bytes old new has.switches.is.whole has.switches.steps in
+          subst (λ (p : PairView). IsSteady new (stopped kept p stop) readers pins) (sym has.switches.becomes) (record {
+            named = named_failed kept readers stop old new alone steady.named;
+            frames = switch_live.named_torn kept old new alone steady.frames;
+            salts = steady.salts;
+            begun = λ still. absurd (let some = still in cc);
+            smaller = steady.smaller;
+          })
+
+  -- After a switch no pin is of the current log, so none needs it begun.
+  module _ (pair : PairView) (index : Indexed) (has : HasSwitched kept true pair salt2 old new) where
+    pub gone_current : (pin : Pin) → Contains pins pin → IsOfCurrent (gone_over kept pair index) pin → ⊥
+    gone_current pin there =
+        none_current kept (gone_over kept pair index) pin
+        (ap (λ (p : PairView). (current_header p).generation) has.switches.becomes ∙ ap (λ (h : LogFields). h.generation) (new_header_is kept.pair (next_header kept.pair salt2 has.sum)))
+        (All-contains (PinHolds old kept) pins pin live.hold there).place
+
+    pub gone_begun : (pin : Pin) → Contains pins pin → IsOfCurrent (gone_over kept pair index) pin → HasBegun (gone_over kept pair index)
+    gone_begun pin there of = absurd (gone_current pin there of)
