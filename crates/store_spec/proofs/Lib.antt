@@ -34,3 +34,4 @@ pub mod SwitchLive
 pub mod SwitchRuns
 pub mod SwitchLaws
 pub mod SteadyLaws
+pub mod HeaderStop
