@@ -1,7 +1,8 @@
 -- What holds besides of a store between its calls goes on over a commit, a switch to the other log, and where either fails.
-use Rattle.std.proofs.Common.{◌≡◌, ◌∙◌, ℕ, ◌+◌, ◌<◌, ◌≤◌, ◌==◌, true, false, if◌then◌else◌, List, [], ◌∷◌, ◌++◌, length, take, map, append-nil, refl, sym, ap, subst, inl, inr, arith, Option, Some, None, All, Contains}
+use Rattle.std.proofs.Common.{◌≡◌, ◌∙◌, ℕ, zero, suc, ◌+◌, ◌<◌, ◌≤◌, ◌==◌, true, false, if◌then◌else◌, List, [], ◌∷◌, ◌++◌, length, take, map, append-nil, add-one, refl, sym, ap, subst, inl, inr, arith, Option, Some, None, All, Contains}
 use Rattle.std.specs.Prelude.{◌⊎◌, IfSome}
-use Rattle.std.proofs.lemmas.List.Elements.{All-contains}
+use Rattle.std.specs.List.Sorted.{IsStrictlyIncreasing}
+use Rattle.std.proofs.lemmas.List.Elements.{All-head, All-contains}
 use Rattle.disk_face.specs.Files.{Files}
 use Rattle.disk_face.specs.Steps.{History, reads}
 use Rattle.page_spec.specs.Header.{fields_of, page_size_in}
@@ -16,6 +17,7 @@ use Rattle.engine_spec.specs.declared.pins.Pin.{Pin}
 use Rattle.engine_spec.specs.declared.pins.Readers.{Readers}
 use Rattle.engine_spec.specs.TwoLogs.{may_switch}
 use Rattle.engine_spec.specs.Written.{Submitted}
+use Rattle.engine_spec.proofs.Conflicts.{contains_cases}
 use Rattle.wal_index.specs.Index.{Indexed}
 use Rattle.log_pair.specs.Pair.{PairView, current_file, current_header, switched_pair}
 use Rattle.log_pair.specs.Switch.{next_header}
@@ -102,12 +104,53 @@ named_same kept later old new readers same named = record {
     }
 
 -- The images of a commit: the first is of page 1, and no other one is.
-pub record BeginWithPage1 (images : List PageImage) : Type 0 where
-  pub first : PageImage
-  pub rest : List PageImage
-  pub are : images ≡ first ∷ rest
-  pub one : first.page ≡ 1
-  pub once : Contains (map (λ image. image.page) rest) 1 → ⊥
+record BeginWithPage1 (images : List PageImage) : Type 0 where
+  first : PageImage
+  rest : List PageImage
+  are : images ≡ first ∷ rest
+  one : first.page ≡ 1
+  once : Contains (map (λ image. image.page) rest) 1 → ⊥
+
+-- where numbers rise, the first is below each other one
+rises_rest : (first : ℕ) (pages : List ℕ) → IsStrictlyIncreasing (first ∷ pages) → IsStrictlyIncreasing pages
+rises_rest first pages rises k within =
+    let step = rises (suc k) (omega arith) in
+    rw (add-one k) (rw (add-one (suc k)) at step)
+
+first_below : (first page : ℕ) (pages : List ℕ) → IsStrictlyIncreasing (first ∷ pages) → Contains pages page → first < page
+first_below first page [] rises (k, within, is) = absurd (omega arith)
+first_below first page (next ∷ pages) rises (zero, within, is) = let less : first < next = rises zero (omega arith) in omega (arith, less, is)
+first_below first page (next ∷ pages) rises (suc k, within, is) =
+    let less : first < next = rises zero (omega arith) in
+    let more = first_below next page pages (rises_rest first (next ∷ pages) rises) (k, omega arith, is) in
+    omega arith
+
+-- so page 1 is the first of some numbers that rise
+page_1_first : (images : List PageImage) (size : ℕ) → IsStrictlyIncreasing (map (λ image. image.page) images) → All (λ page. (1 ≤ page) × (page ≤ size)) (map (λ image. image.page) images)
+    → Contains (map (λ image. image.page) images) 1 → BeginWithPage1 images
+page_1_first [] size rises within there = absurd (let low = there.1 in omega arith)
+page_1_first (image ∷ rest) size rises within there = record {
+  first = image;
+  rest = rest;
+  are = refl;
+  one = elim (contains_cases image.page 1 (map (λ image. image.page) rest) there) [
+    | inl is ↦ is
+    | inr later ↦ absurd (none later)
+  ];
+  once = none;
+}
+  where
+    none : Contains (map (λ image. image.page) rest) 1 → ⊥
+    none later =
+        let some = (All-head (λ (page : ℕ). (1 ≤ page) × (page ≤ size)) image.page (map (λ image. image.page) rest) within).0 in
+        let less = first_below image.page 1 (map (λ image. image.page) rest) rises later in
+        omega arith
+
+begins_with : (kept : StoreData) (images : List PageImage) (pair : PairView) (asked : Submitted) (commit : Commit) (old new : Option History) → IsCommitting kept true images pair asked commit old new
+    → BeginWithPage1 images
+begins_with kept images pair asked commit old new c =
+    page_1_first images kept.size (subst IsStrictlyIncreasing c.lays.numbers c.wrote.rising) (subst (All (λ page. (1 ≤ page) × (page ≤ kept.size))) c.lays.numbers c.lays.within)
+    (subst (λ (pages : List ℕ). Contains pages 1) c.lays.numbers c.lays.first)
 
 -- the pages of the frames of the current log, wherever the store stands
 current_there : (opening : Opening) (kept : StoreData) (told : History) → IsOpenedAt opening kept (Some told) → page_numbers (current_read kept.pair (reads told)) ≡ current_pages kept
@@ -155,11 +198,12 @@ module _ (kept : StoreData) (images : List PageImage) (pair : PairView) (index :
             newest = newest_named live.opening (committed kept pair index commit) later c.may.running opened;
           }) live.whole (whole_committed kept images pair index asked commit (Some told) new c indexed live.whole) readers named
 
-  frames_named : (old new : Option History) → IsCommitting kept true images pair asked commit old new → HasIndexed kept commit index → BeginWithPage1 images → (opening : Opening) → IsOpenedAt opening kept old
+  frames_named : (old new : Option History) → IsCommitting kept true images pair asked commit old new → HasIndexed kept commit index → (opening : Opening) → IsOpenedAt opening kept old
       → IfSome old (λ told. AllName kept.page_size (current_read kept.pair (reads told))) → IfSome new (λ told. AllName kept.page_size (current_read pair (reads told)))
-  frames_named None new c indexed begins opening opened before =
+  frames_named None new c indexed opening opened before =
       subst (λ (t : Option History). IfSome t (λ told. AllName kept.page_size (current_read pair (reads told)))) (sym c.has.steps) tt
-  frames_named (Some told) new c indexed begins opening opened before =
+  frames_named (Some told) new c indexed opening opened before =
+      let begins = begins_with kept images pair asked commit (Some told) new c in
       frames_committed (AllName kept.page_size) kept images pair index asked commit (Some told) new opening c indexed opened
       (λ frames are. named_more kept.page_size frames c.has.more are
       (named_commit kept.page_size begins.first begins.rest c.has.more (subst (λ (is : List PageImage). AreFramesOf is c.has.more) begins.are (c.has.writes.frames refl)) begins.one begins.once
@@ -167,13 +211,13 @@ module _ (kept : StoreData) (images : List PageImage) (pair : PairView) (index :
       before
 
   -- The store is steady after it, whether it had begun its current log or not.
-  pub steady_committed : (old new : Option History) → IsCommitting kept true images pair asked commit old new → HasIndexed kept commit index → BeginWithPage1 images
+  pub steady_committed : (old new : Option History) → IsCommitting kept true images pair asked commit old new → HasIndexed kept commit index
       → IsLiveStore old kept readers pins → IsSteadyBut old kept readers pins → IsSteady new (committed kept pair index commit) readers pins
-  steady_committed old new c indexed begins live steady =
+  steady_committed old new c indexed live steady =
       let goes = goes_committed kept images pair index asked commit old new c indexed in
       record {
         named = named_committed old new c indexed live steady.named;
-        frames = frames_named old new c indexed begins live.opening live.opened steady.frames;
+        frames = frames_named old new c indexed live.opening live.opened steady.frames;
         salts = salts_on kept.pair pair goes.pair steady.salts;
         begun = λ none. begun_after kept (committed kept pair index commit) commit goes;
         smaller = steady.smaller;
