@@ -1,12 +1,11 @@
 -- What holds besides of a store between its calls goes on over a commit, a switch to the other log, and where either fails.
-use Rattle.std.proofs.Common.{◌≡◌, ◌∙◌, ℕ, zero, suc, ◌+◌, ◌<◌, ◌≤◌, ◌==◌, true, false, if◌then◌else◌, List, [], ◌∷◌, ◌++◌, length, take, map, append-nil, add-one, refl, sym, ap, subst, inl, inr, arith, Option, Some, None, All, Contains}
-use Rattle.std.specs.Prelude.{◌⊎◌, IfSome}
+use Rattle.std.proofs.Common.{◌≡◌, ◌∙◌, ℕ, zero, suc, ◌<◌, ◌≤◌, ◌==◌, true, false, if◌then◌else◌, List, [], ◌∷◌, length, take, map, append-nil, add-one, refl, sym, ap, subst, inl, inr, arith, Option, Some, None, All, Contains}
+use Rattle.std.specs.Prelude.{IfSome}
 use Rattle.std.specs.List.Sorted.{IsStrictlyIncreasing}
 use Rattle.std.proofs.lemmas.List.Elements.{All-head, All-contains}
-use Rattle.disk_face.specs.Files.{Files}
 use Rattle.disk_face.specs.Steps.{History, reads}
 use Rattle.page_spec.specs.Header.{fields_of, page_size_in}
-use Rattle.log_spec.specs.Accept.{Frame, page_numbers}
+use Rattle.log_spec.specs.Accept.{page_numbers}
 use Rattle.log_spec.specs.Checksum.{Sum}
 use Rattle.log_spec.specs.LogHeader.{LogFields}
 use Rattle.crash_spec.specs.Opening.{Opening}
@@ -33,7 +32,7 @@ use Rattle.store_spec.proofs.Named.{named_more, named_commit}
 use Rattle.store_spec.proofs.NamedLaws as named_laws
 use Rattle.store_spec.proofs.NamedLaws.{HasGrown, HasGoneOver, named_grown}
 use Rattle.store_spec.proofs.FramesStand.{at_told}
-use Rattle.store_spec.proofs.Writing.{IsPairOf, pair_more, pair_appended}
+use Rattle.store_spec.proofs.Writing.{pair_appended}
 use Rattle.store_spec.proofs.Committed.{still_told, opened_committed}
 use Rattle.store_spec.proofs.Committing.{IsCommitting, goes_committed, goes_stopped, read_committed, read_stopped}
 use Rattle.store_spec.proofs.CommitLive.{whole_committed}
