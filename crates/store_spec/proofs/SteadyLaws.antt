@@ -295,11 +295,12 @@ named_failed kept readers stop (Some told) (Some later) alone named =
       frames = current_alone kept.pair (reads told) (reads later) alone;
     }) named
 
-module _ (kept : StoreData) (readers : Readers) (pins : List Pin) (salt2 : ℕ) (old new : Option History) (live : IsLiveStore old kept readers pins) (none : kept.stop ≡ None) where
-  -- where it didn't go over, a pin of the current log needs it begun
-  pub kept_begun : IsSteady old kept readers pins → (pin : Pin) → Contains pins pin → IsOfCurrent kept pin → HasBegun kept
-  kept_begun steady pin there of = steady.begun none
+-- a pin of the current log needs it begun; so it is where the store didn't go over
+pub kept_begun : (told : Option History) (kept : StoreData) (readers : Readers) (pins : List Pin) → kept.stop ≡ None → IsSteady told kept readers pins
+    → (pin : Pin) → Contains pins pin → IsOfCurrent kept pin → HasBegun kept
+kept_begun told kept readers pins none steady pin there of = steady.begun none
 
+module _ (kept : StoreData) (readers : Readers) (pins : List Pin) (salt2 : ℕ) (old new : Option History) (live : IsLiveStore old kept readers pins) (none : kept.stop ≡ None) where
   module _ (steady : IsSteadyBut old kept readers pins) where
     -- The switch was done.
     module _ (may : may_switch (two_logs kept) readers kept.history ≡ true) (pair : PairView) (index : Indexed) (cleared : HasCleared kept index) (has : HasSwitched kept true pair salt2 old new) where
