@@ -33,3 +33,5 @@ pub mod SwitchPins
 pub mod SwitchLive
 pub mod SwitchRuns
 pub mod SwitchLaws
+pub mod SteadyLaws
+pub mod HeaderStop
