@@ -1,0 +1,127 @@
+-- What looking a row up says of pages.
+use Rattle.std.specs.Prelude.{◌≡◌, ◌⊎◌, ℕ, ℤ, ◌+◌, ◌^◌, ◌<◌, ◌≤◌, Bool, true, List, [], ◌∷◌, ◌++◌, length, Option, None, Some, MatchOption, Result, Ok, Err, IfErr}
+use Rattle.disk_face.specs.Faults.{Rose}
+use Rattle.page_spec.specs.View.{View}
+use Rattle.engine_spec.specs.declared.commits.FetchFault.{FetchFault}
+use Rattle.engine_spec.specs.declared.commits.FetchFault.TheVariants as fault
+use Rattle.page_face.specs.declared.pages_tells.PagesTells.{Ghosts}
+use Rattle.page_face.specs.Pages.{pages_read}
+use Rattle.node_spec.specs.Kinds.{is_leaf}
+use Rattle.node_spec.specs.Cells.{NodeCell}
+use Rattle.node_spec.specs.Nodes.{Node}
+use Rattle.tree_spec.specs.Shown.{Shown}
+use Rattle.tree_spec.specs.Layout.{Item}
+use Rattle.tree_spec.specs.Trees.{IsTree, IsItem}
+use Rattle.value_form.specs.declared.value.Value.{Value}
+use Rattle.value_form.specs.Record.{IsRecord}
+use Rattle.overflow.specs.Following.{shown_over, all_read}
+use Rattle.tree_read.specs.Ways.{ShowsNode, MayStand, HasRowid, LacksRowid, NamesChild, GoesOn, IsWay, IsAround}
+use Rattle.tree_read.specs.Payloads.{AreOfChain, BreaksPayload, EndsWithRow, IsCause}
+
+-- One page.
+
+-- why a page that was handed in gave no node: the disk failed, or it was read and shows none that may stand there
+abbrev pub BarsNode : {P : Type 0} → Ghosts P → P → (table : Bool) → (page level : ℕ) → P → FetchFault → Type 0
+BarsNode pages old table page level new fault.Disk = Rose (pages.faults old) (pages.faults new)
+BarsNode pages old table page level new (fault.Corrupt named) = (named ≡ page) × (pages.reads new ≡ pages_read pages old page)
+    × ((world : View) → pages.tells new world → (node : Node) → ShowsNode table (shown_over pages old world) level page node → ⊥)
+BarsNode pages old table page level new (fault.Size count) = ⊥
+BarsNode pages old table page level new fault.Memory = Unit {0}
+
+-- A whole look-up.
+
+-- A leaf, so many levels below the root, has a cell with this rowid.
+pub record HasCell (shown : Shown) (level page : ℕ) (rowid : ℤ) (cell : NodeCell) : Type 0 where
+  pub node : Node
+  pub shows : ShowsNode true shown level page node
+  pub leaf : is_leaf node.kind ≡ true
+  pub has : HasRowid node rowid cell
+
+-- It has none.
+pub record LacksCell (shown : Shown) (level page : ℕ) (rowid : ℤ) : Type 0 where
+  pub node : Node
+  pub shows : ShowsNode true shown level page node
+  pub leaf : is_leaf node.kind ≡ true
+  pub lacks : LacksRowid node rowid
+
+-- What was read from the page on that the way comes to: nothing, or that page and pages of the chain of the rowid's cell in it.
+abbrev pub AreReadBelow : (usable last : ℕ) → Shown → (level below : ℕ) → ℤ → List ℕ → Type 0
+AreReadBelow usable last shown level below rowid [] = Unit {0}
+AreReadBelow usable last shown level below rowid (page ∷ []) = page ≡ below
+AreReadBelow usable last shown level below rowid (page ∷ (p ∷ ps)) =
+    (page ≡ below) × ((cell : NodeCell) × (HasCell shown level below rowid cell × AreOfChain usable last shown cell (p ∷ ps)))
+
+-- Why a page is corrupt, as a look-up finds it: the root is out of range; the page that the way comes to breaks its form or may not stand
+-- there; it names a child out of range; or the payload of the rowid's cell in it is broken.
+pub data BreaksWay (usable last : ℕ) (shown : Shown) (root : ℕ) (rowid : ℤ) (way : List ℕ) (below : ℕ) (after : List ℕ) (page : ℕ) : Type 0 where
+  RootOutside : way ≡ [] → after ≡ [] → page ≡ root → (root < 1) ⊎ (last < root) → BreaksWay usable last shown root rowid way below after page
+  ShowsNone : after ≡ below ∷ [] → page ≡ below → ((node : Node) → ShowsNode true shown (length way) below node → ⊥)
+      → BreaksWay usable last shown root rowid way below after page
+  ChildOutside : (child : ℕ) → after ≡ below ∷ [] → page ≡ below → NamesChild shown rowid (length way) below child → (child < 2) ⊎ (last < child)
+      → BreaksWay usable last shown root rowid way below after page
+  OfPayload : (cell : NodeCell) (chain : List ℕ) → after ≡ below ∷ chain → HasCell shown (length way) below rowid cell
+      → BreaksPayload usable last shown cell below chain page → BreaksWay usable last shown root rowid way below after page
+
+-- How a look-up ended.
+abbrev pub EndsLookUp : (usable last : ℕ) → Shown → (root : ℕ) → ℤ → (way : List ℕ) → (below : ℕ) → (after : List ℕ)
+    → Result (Option (List Value)) FetchFault → Type 0
+EndsLookUp usable last shown root rowid way below after (Ok None) = (after ≡ below ∷ []) × LacksCell shown (length way) below rowid
+EndsLookUp usable last shown root rowid way below after (Ok (Some row)) =
+    (cell : NodeCell) × ((chain : List ℕ) × ((after ≡ below ∷ chain) × (HasCell shown (length way) below rowid cell
+    × EndsWithRow usable last shown cell below chain (Ok row))))
+EndsLookUp usable last shown root rowid way below after (Err fault.Disk) = AreReadBelow usable last shown (length way) below rowid after
+EndsLookUp usable last shown root rowid way below after (Err (fault.Corrupt page)) = BreaksWay usable last shown root rowid way below after page
+EndsLookUp usable last shown root rowid way below after (Err (fault.Size pages)) = ⊥
+EndsLookUp usable last shown root rowid way below after (Err fault.Memory) = AreReadBelow usable last shown (length way) below rowid after
+
+-- A row was looked up: the pages of the way down were read, and these from where it comes to, and no others. Over each world that is still
+-- told it is the way towards the rowid, and ended so.
+pub record HasLooked {P : Type 0} (pages : Ghosts P) (old : P) (root : ℕ) (rowid : ℤ) (result : Result (Option (List Value)) FetchFault) (new : P) : Type 0 where
+  pub way : List ℕ
+  pub below : ℕ
+  pub after : List ℕ
+  pub read : pages.reads new ≡ all_read (pages.has old) (pages.reads old) (way ++ after)
+  pub leads : (world : View) → pages.tells new world → IsWay (GoesOn (pages.last_page old) (shown_over pages old world) rowid) 0 root way below
+  pub ends : (world : View) → pages.tells new world
+      → EndsLookUp (pages.usable old) (pages.last_page old) (shown_over pages old world) root rowid way below after result
+  pub cause : IfErr result (IsCause (pages.faults old) (pages.faults new))
+
+-- Said of trees.
+
+-- the items have no such rowid, or one item has it and its payload begins with the record of the row
+abbrev pub Answers : (rowid : ℤ) → List Item → Option (List Value) → Type 0
+Answers rowid items found = MatchOption found (IsAround rowid items [])
+    (λ row. (item : Item) × ((item.key ≡ rowid) × (IsAround rowid items (item ∷ []) × IsRecord item.bytes row)))
+
+-- Over each world in which the root has a table's tree the answer is that of its items.
+abbrev pub FindsRow : {P : Type 0} → Ghosts P → P → (root : ℕ) (rowid : ℤ) → Option (List Value) → P → Type 0
+FindsRow pages old root rowid found new = (world : View) → pages.tells new world → (bound height : ℕ) (own : List ℕ) (items : List Item)
+    → IsTree true (pages.usable old) bound (shown_over pages old world) height root own items → Answers rowid items found
+
+-- There is a tree at a root in range, at most 40 levels deep below it, over some world that is still told.
+pub record ThereIsTree {P : Type 0} (table : Bool) (pages : Ghosts P) (old : P) (root : ℕ) (items : List Item) (new : P) : Type 0 where
+  pub world : View
+  pub told : pages.tells new world
+  pub least : 1 ≤ root
+  pub most : root ≤ pages.last_page old
+  pub height : ℕ
+  pub low : height ≤ 40
+  pub own : List ℕ
+  pub tree : IsTree table (pages.usable old) (pages.last_page old) (shown_over pages old world) height root own items
+
+-- an item's payload is no record without a float, or is 2^32 bytes or more
+abbrev pub IsNoRow : (usable last : ℕ) → Shown → Item → Type 0
+IsNoRow usable last shown item = ((row : List Value) → IsRecord item.bytes row → ⊥)
+    ⊎ ((cell : NodeCell) × (IsItem usable last shown cell item × (2 ^ 32 ≤ cell.payload)))
+
+-- A fault over such a tree: from outside, or the item of the rowid is no row.
+abbrev pub IsOfRow : (usable last : ℕ) → Shown → (before after : ℕ) (rowid : ℤ) → List Item → FetchFault → Type 0
+IsOfRow usable last shown before after rowid items fault.Disk = Rose before after
+IsOfRow usable last shown before after rowid items (fault.Corrupt page) =
+    (item : Item) × ((item.key ≡ rowid) × (IsAround rowid items (item ∷ []) × IsNoRow usable last shown item))
+IsOfRow usable last shown before after rowid items (fault.Size pages) = ⊥
+IsOfRow usable last shown before after rowid items fault.Memory = Unit {0}
+
+abbrev pub FailsRow : {P : Type 0} → Ghosts P → P → (root : ℕ) (rowid : ℤ) → FetchFault → P → Type 0
+FailsRow pages old root rowid why new = (items : List Item) (there : ThereIsTree true pages old root items new)
+    → IsOfRow (pages.usable old) (pages.last_page old) (shown_over pages old there.world) (pages.faults old) (pages.faults new) rowid items why
