@@ -1,2 +1,5 @@
 pub mod Around
 pub mod Leaves
+pub mod Nodes
+pub mod Payloads
+pub mod Descents

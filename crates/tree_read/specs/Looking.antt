@@ -1,5 +1,5 @@
 -- What looking a row up says of pages.
-use Rattle.std.specs.Prelude.{◌≡◌, ◌⊎◌, ℕ, ℤ, ◌+◌, ◌^◌, ◌<◌, ◌≤◌, Bool, true, List, [], ◌∷◌, ◌++◌, length, Option, None, Some, MatchOption, Result, Ok, Err, IfErr}
+use Rattle.std.specs.Prelude.{◌≡◌, ◌⊎◌, ℕ, ℤ, ◌+◌, ◌^◌, ◌<◌, ◌≤◌, ◌==◌, Bool, true, List, [], ◌∷◌, ◌++◌, length, Option, None, Some, MatchOption, Result, Ok, Err, IfErr}
 use Rattle.disk_face.specs.Faults.{Rose}
 use Rattle.page_spec.specs.View.{View}
 use Rattle.engine_spec.specs.declared.commits.FetchFault.{FetchFault}
@@ -8,7 +8,10 @@ use Rattle.page_face.specs.declared.pages_tells.PagesTells.{Ghosts}
 use Rattle.page_face.specs.Pages.{pages_read}
 use Rattle.node_spec.specs.Kinds.{is_leaf}
 use Rattle.node_spec.specs.Cells.{NodeCell}
-use Rattle.node_spec.specs.Nodes.{Node}
+use Rattle.node_spec.specs.Nodes.{Node, node_of}
+use Rattle.page_form.specs.declared.page.Page.{Page}
+use Rattle.page_form.specs.Reading.{Tells, IsReadPage}
+use Rattle.tree_read.specs.declared.find.Leaf.{Leaf}
 use Rattle.tree_spec.specs.Shown.{Shown}
 use Rattle.tree_spec.specs.Layout.{Item}
 use Rattle.tree_spec.specs.Trees.{IsTree, IsItem}
@@ -27,6 +30,22 @@ BarsNode pages old table page level new (fault.Corrupt named) = (named ≡ page)
     × ((world : View) → pages.tells new world → (node : Node) → ShowsNode table (shown_over pages old world) level page node → ⊥)
 BarsNode pages old table page level new (fault.Size count) = ⊥
 BarsNode pages old table page level new fault.Memory = Unit {0}
+
+-- what was decoded is a node that may stand there, which the page shows over each world that is still told
+pub record HasNode {P : Type 0} (pages : Ghosts P) (old : P) (table : Bool) (page level : ℕ) (bytes : List ℕ) (told : Page) (new : P) : Type 0 where
+  pub node : Node
+  pub tells : Tells (pages.usable old) (page == 1) bytes told node
+  pub may : MayStand table page level node
+  pub shown : (world : View) → pages.tells new world → (shown_over pages old world).node page ≡ Some node
+  pub read : pages.reads new ≡ pages_read pages old page
+
+-- why bytes gave no node: they show none that may stand there
+abbrev pub IsNoNode : (usable : ℕ) (table : Bool) (page level : ℕ) → List ℕ → FetchFault → Type 0
+IsNoNode usable table page level bytes fault.Disk = ⊥
+IsNoNode usable table page level bytes (fault.Corrupt named) =
+    (named ≡ page) × ((node : Node) → node_of usable (page == 1) bytes ≡ Some node → MayStand table page level node → ⊥)
+IsNoNode usable table page level bytes (fault.Size count) = ⊥
+IsNoNode usable table page level bytes fault.Memory = Unit {0}
 
 -- A whole look-up.
 
@@ -85,6 +104,16 @@ pub record HasLooked {P : Type 0} (pages : Ghosts P) (old : P) (root : ℕ) (row
   pub ends : (world : View) → pages.tells new world
       → EndsLookUp (pages.usable old) (pages.last_page old) (shown_over pages old world) root rowid way below after result
   pub cause : IfErr result (IsCause (pages.faults old) (pages.faults new))
+
+-- The way down came to a leaf, whose bytes these are, and it was read.
+pub record HasDescended {P : Type 0} (pages : Ghosts P) (old : P) (root : ℕ) (rowid : ℤ) (bytes : List ℕ) (leaf : Leaf) (new : P) : Type 0 where
+  pub way : List ℕ
+  pub node : Node
+  pub tells : IsReadPage (pages.usable old) bytes leaf.node node
+  pub is_leaf : is_leaf node.kind ≡ true
+  pub read : pages.reads new ≡ all_read (pages.has old) (pages.reads old) (way ++ leaf.page ∷ [])
+  pub leads : (world : View) → pages.tells new world → IsWay (GoesOn (pages.last_page old) (shown_over pages old world) rowid) 0 root way leaf.page
+  pub shows : (world : View) → pages.tells new world → ShowsNode true (shown_over pages old world) (length way) leaf.page node
 
 -- Said of trees.
 

@@ -1,5 +1,5 @@
 -- A cell's payload as it is read: what the cell stores, and then the chain as far as it was followed.
-use Rattle.std.specs.Prelude.{◌≡◌, ◌⊎◌, ℕ, ◌-◌, ◌^◌, ◌<◌, ◌≤◌, List, [], ◌∷◌, ◌++◌, length, Result, Ok, Err, IfErr}
+use Rattle.std.specs.Prelude.{◌≡◌, ◌⊎◌, ℕ, ◌-◌, ◌^◌, ◌<◌, ◌≤◌, List, [], ◌∷◌, ◌++◌, length, Result, Ok, Err, IfErr, OnOk}
 use Rattle.disk_face.specs.Faults.{Rose}
 use Rattle.page_spec.specs.View.{View}
 use Rattle.engine_spec.specs.declared.commits.FetchFault.{FetchFault}
@@ -10,6 +10,7 @@ use Rattle.tree_spec.specs.Shown.{Shown}
 use Rattle.tree_spec.specs.Chains.{chain_bytes}
 use Rattle.value_form.specs.declared.value.Value.{Value}
 use Rattle.value_form.specs.declared.fault.RecordFault.{RecordFault}
+use Rattle.value_form.specs.declared.fault.RecordFault.TheVariants as refusal
 use Rattle.value_form.specs.Record.{IsRecord, IsRefused}
 use Rattle.overflow.specs.Following.{Leads, last_met, all_read, shown_over}
 
@@ -40,6 +41,21 @@ pub data BreaksPayload (usable last : ℕ) (shown : Shown) (cell : NodeCell) (be
   NoRecord : (next : ℕ) → IsFollowed usable last shown cell chain next 0 → page ≡ below
       → (why : RecordFault) → IsRefused (payload_bytes usable shown cell chain) why → BreaksPayload usable last shown cell below chain page
 
+-- How reading the payload of a cell of a page ended.
+abbrev pub EndsPayload : (usable last : ℕ) → Shown → NodeCell → (below : ℕ) → List ℕ → Result Unit FetchFault → Type 0
+EndsPayload usable last shown cell below chain (Ok done) = (next : ℕ) × IsFollowed usable last shown cell chain next 0
+EndsPayload usable last shown cell below chain (Err fault.Disk) = AreOfChain usable last shown cell chain
+EndsPayload usable last shown cell below chain (Err (fault.Corrupt page)) = BreaksPayload usable last shown cell below chain page
+EndsPayload usable last shown cell below chain (Err (fault.Size pages)) = ⊥
+EndsPayload usable last shown cell below chain (Err fault.Memory) = AreOfChain usable last shown cell chain
+
+-- why a record that was refused makes its page corrupt: for each cause but want of memory
+abbrev pub IsRecordCause : RecordFault → (page : ℕ) → FetchFault → Type 0
+IsRecordCause (refusal.BadHeader at) page why = why ≡ fault.Corrupt page
+IsRecordCause (refusal.Short need) page why = why ≡ fault.Corrupt page
+IsRecordCause (refusal.Float column) page why = why ≡ fault.Corrupt page
+IsRecordCause refusal.Memory page why = why ≡ fault.Memory
+
 -- How reading the row of a cell of a page ended.
 abbrev pub EndsWithRow : (usable last : ℕ) → Shown → NodeCell → (below : ℕ) → List ℕ → Result (List Value) FetchFault → Type 0
 EndsWithRow usable last shown cell below chain (Ok row) =
@@ -55,6 +71,16 @@ IsCause before after fault.Disk = Rose before after
 IsCause before after (fault.Corrupt page) = Unit {0}
 IsCause before after (fault.Size pages) = ⊥
 IsCause before after fault.Memory = Unit {0}
+
+-- A payload was read: these pages of its chain were read and no others, and over each world that is still told they are those that it leads
+-- to. It went well only where no bytes are left, and then these are its bytes.
+pub record HasReadPayload {P : Type 0} (pages : Ghosts P) (old : P) (cell : NodeCell) (below : ℕ) (result : Result Unit FetchFault) (bytes : List ℕ) (new : P) : Type 0 where
+  pub chain : List ℕ
+  pub read : pages.reads new ≡ all_read (pages.has old) (pages.reads old) chain
+  pub bytes_are : (world : View) → pages.tells new world → OnOk result (bytes ≡ payload_bytes (pages.usable old) (shown_over pages old world) cell chain)
+  pub ends : (world : View) → pages.tells new world
+      → EndsPayload (pages.usable old) (pages.last_page old) (shown_over pages old world) cell below chain result
+  pub cause : IfErr result (IsCause (pages.faults old) (pages.faults new))
 
 -- The row of a cell was read: these pages of its chain were read and no others, and over each world that is still told it ended so.
 pub record HasReadRow {P : Type 0} (pages : Ghosts P) (old : P) (cell : NodeCell) (below : ℕ) (result : Result (List Value) FetchFault) (new : P) : Type 0 where

@@ -4,6 +4,9 @@
 //! with no smaller rowid, and goes on at the child there. It fetches one page a level, and the pages of the row's chain.
 #![tactic(auto)]
 
+mod find;
+mod node;
 mod place;
+mod row;
 
-pub use place::place_of;
+pub use find::find_row;

@@ -1,12 +1,14 @@
 // Where a rowid stands among the cells of a table's page.
+ghost use Rattle.std.specs.Prelude.{◌≡◌, MatchOption};
+ghost use Rattle.node_spec.specs.Cells.{NodeCell};
 ghost use Rattle.node_spec.specs.Nodes.{Node};
-ghost use Rattle.page_form.specs.Reading.{IsReadPage};
-ghost use Rattle.tree_read.specs.Ways.{StandsAt};
+ghost use Rattle.page_form.specs.Reading.{IsReadPage, TellsCell};
+ghost use Rattle.tree_read.specs.Ways.{StandsAt, IsNext, HasRowid, LacksRowid};
 
-use page_form::{Page, read_cell};
+use page_form::{Cell, Page, read_cell};
 
-/// The place of a rowid among the cells of a page, whose rowids rise. Where they don't it is still a place between two that fit.
-pub fn place_of(page: &Page, bytes: &[u8], u: usize, rowid: i64) -> usize
+// The place of a rowid among the cells of a page, whose rowids rise. Where they don't it is still a place between two that fit.
+fn place_of(page: &Page, bytes: &[u8], u: usize, rowid: i64) -> usize
     requires { (node : Node) × IsReadPage u bytes.now page.now node }
     ensures { (node : Node) → IsReadPage u bytes.now page.now node → StandsAt node.cells rowid result }
 {
@@ -21,4 +23,31 @@ pub fn place_of(page: &Page, bytes: &[u8], u: usize, rowid: i64) -> usize
         }
     }
     low
+}
+
+// The child at a rowid's place: that of the cell there, past all cells the right one.
+pub(crate) fn child_of(page: &Page, bytes: &[u8], u: usize, rowid: i64) -> u32
+    requires { (node : Node) × IsReadPage u bytes.now page.now node }
+    ensures { (node : Node) → IsReadPage u bytes.now page.now node → IsNext node rowid result }
+{
+    let place = place_of(page, bytes, u, rowid);
+    if place < page.cells.len() {
+        read_cell(page, bytes, u, place).left
+    } else {
+        page.right
+    }
+}
+
+// The cell with a rowid.
+pub(crate) fn cell_of(page: &Page, bytes: &[u8], u: usize, rowid: i64) -> Option<Cell>
+    requires { (node : Node) × IsReadPage u bytes.now page.now node }
+    ensures { (node : Node) → IsReadPage u bytes.now page.now node → MatchOption result (LacksRowid node rowid)
+        (λ told. (cell : NodeCell) × (TellsCell u node.kind bytes.now told cell × HasRowid node rowid cell)) }
+{
+    let place = place_of(page, bytes, u, rowid);
+    if place >= page.cells.len() {
+        return None;
+    }
+    let cell = read_cell(page, bytes, u, place);
+    if rowid < cell.rowid { None } else { Some(cell) }
 }
