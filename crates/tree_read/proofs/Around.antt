@@ -160,3 +160,10 @@ lists_some usable last shown (suc height) node below items is many =
       | inl first ↦ absurd (omega (arith, first, child.least))
       | inr enough ↦ lists_some usable last shown height child.holds.node child.holds.below some child.holds.content enough
     ]) node.cells node.right below items is.under many
+
+-- so does each child
+pub child_some : (usable last : ℕ) (shown : Shown) (height : ℕ) → ListsSome (IsChild last shown (Content true usable last shown height))
+child_some usable last shown height page own some child = elim child.holds.enough [
+  | inl first ↦ absurd (omega (arith, first, child.least))
+  | inr enough ↦ lists_some usable last shown height child.holds.node child.holds.below some child.holds.content enough
+]

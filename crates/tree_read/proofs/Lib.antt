@@ -3,3 +3,4 @@ pub mod Leaves
 pub mod Nodes
 pub mod Payloads
 pub mod Descents
+pub mod Trees

@@ -14,7 +14,7 @@ use Rattle.tree_spec.specs.Shown.{Shown}
 use Rattle.value_form.specs.declared.value.Value.{Value}
 use Rattle.value_form.specs.declared.fault.RecordFault.{RecordFault}
 use Rattle.value_form.specs.declared.fault.RecordFault.TheVariants as refusal
-use Rattle.value_form.specs.Record.{IsRecord, IsRefused}
+use Rattle.value_form.specs.Record.{IsRecord, IsOrMemory}
 use Rattle.overflow.specs.Following.{Leads, last_met, shown_over, Bars, HasFollowed}
 use Rattle.tree_read.specs.Payloads.{chain_size, IsFollowed, AreOfChain, BreaksPayload, EndsPayload, EndsWithRow, IsCause, IsRecordCause, HasReadPayload, HasReadRow}
 
@@ -140,13 +140,14 @@ row_read pages old new cell below bytes row payload is = record {
   cause = tt;
 }
 
-pub row_refused : {P : Type 0} (pages : Ghosts P) (old new : P) (cell : NodeCell) (below : ℕ) (bytes : List ℕ) (why : RecordFault)
-    → HasReadPayload pages old cell below (Ok tt) bytes new → IsRefused bytes why → HasReadRow pages old cell below (Err (fault.Corrupt below)) new
-row_refused pages old new cell below bytes why payload is = record {
+row_refused : {P : Type 0} (pages : Ghosts P) (old new : P) (cell : NodeCell) (below : ℕ) (bytes : List ℕ)
+    → HasReadPayload pages old cell below (Ok tt) bytes new → ((row : List Value) → IsRecord bytes row → ⊥)
+    → HasReadRow pages old cell below (Err (fault.Corrupt below)) new
+row_refused pages old new cell below bytes payload none = record {
   chain = payload.chain;
   read = payload.read;
-  ends = λ world told. BreaksPayload.NoRecord (payload.ends world told).0 (payload.ends world told).1 refl why
-      (subst (λ (b : List ℕ). IsRefused b why) (payload.bytes_are world told) is);
+  ends = λ world told. BreaksPayload.NoRecord (payload.ends world told).0 (payload.ends world told).1 refl
+      (subst (λ (b : List ℕ). (row : List Value) → IsRecord b row → ⊥) (payload.bytes_are world told) none);
   cause = tt;
 }
 
@@ -175,23 +176,25 @@ row_unread pages old new cell below bytes why payload = record {
   cause = payload.cause;
 }
 
-refused_as : {P : Type 0} (pages : Ghosts P) (old new : P) (cell : NodeCell) (below : ℕ) (bytes : List ℕ) (why : RecordFault) (told : FetchFault)
-    → HasReadPayload pages old cell below (Ok tt) bytes new → told ≡ fault.Corrupt below → IsRefused bytes why → HasReadRow pages old cell below (Err told) new
-refused_as pages old new cell below bytes why told payload is refused =
-    subst (λ (f : FetchFault). HasReadRow pages old cell below (Err f) new) (sym is) (row_refused pages old new cell below bytes why payload refused)
+abbrev fault_in : Result (List Value) RecordFault → RecordFault
+fault_in (Ok row) = refusal.Memory
+fault_in (Err why) = why
 
-not_memory : (bytes : List ℕ) (why : RecordFault) → (why ≡ refusal.Memory → ⊥) → (why ≡ refusal.Memory) ⊎ IsRefused bytes why → IsRefused bytes why
-not_memory bytes why never (inl is) = absurd (never is)
-not_memory bytes why never (inr refused) = refused
+refused_as : {P : Type 0} (pages : Ghosts P) (old new : P) (cell : NodeCell) (below : ℕ) (bytes : List ℕ) (why : RecordFault) (told : FetchFault)
+    → HasReadPayload pages old cell below (Ok tt) bytes new → told ≡ fault.Corrupt below → (why ≡ refusal.Memory → ⊥)
+    → ((row : List Value) → IsRecord bytes row → IsOrMemory (Err why) (Ok row)) → HasReadRow pages old cell below (Err told) new
+refused_as pages old new cell below bytes why told payload is never each =
+    subst (λ (f : FetchFault). HasReadRow pages old cell below (Err f) new) (sym is)
+    (row_refused pages old new cell below bytes payload (λ row is_row. elim (each row is_row) [ inl same ↦ cc | inr none ↦ absurd (never (ap fault_in none)) ]))
 
 pub no_row : {P : Type 0} (pages : Ghosts P) (old new : P) (cell : NodeCell) (below : ℕ) (bytes : List ℕ) (why : RecordFault) (told : FetchFault)
-    → HasReadPayload pages old cell below (Ok tt) bytes new → (why ≡ refusal.Memory) ⊎ IsRefused bytes why → IsRecordCause why below told
-    → HasReadRow pages old cell below (Err told) new
-no_row pages old new cell below bytes (refusal.BadHeader at) told payload refused is =
-    refused_as pages old new cell below bytes (refusal.BadHeader at) told payload is (not_memory bytes (refusal.BadHeader at) (λ e. cc) refused)
-no_row pages old new cell below bytes (refusal.Short need) told payload refused is =
-    refused_as pages old new cell below bytes (refusal.Short need) told payload is (not_memory bytes (refusal.Short need) (λ e. cc) refused)
-no_row pages old new cell below bytes (refusal.Float column) told payload refused is =
-    refused_as pages old new cell below bytes (refusal.Float column) told payload is (not_memory bytes (refusal.Float column) (λ e. cc) refused)
-no_row pages old new cell below bytes refusal.Memory told payload refused is =
+    → HasReadPayload pages old cell below (Ok tt) bytes new → ((row : List Value) → IsRecord bytes row → IsOrMemory (Err why) (Ok row))
+    → IsRecordCause why below told → HasReadRow pages old cell below (Err told) new
+no_row pages old new cell below bytes (refusal.BadHeader at) told payload each is =
+    refused_as pages old new cell below bytes (refusal.BadHeader at) told payload is (λ e. cc) each
+no_row pages old new cell below bytes (refusal.Short need) told payload each is =
+    refused_as pages old new cell below bytes (refusal.Short need) told payload is (λ e. cc) each
+no_row pages old new cell below bytes (refusal.Float column) told payload each is =
+    refused_as pages old new cell below bytes (refusal.Float column) told payload is (λ e. cc) each
+no_row pages old new cell below bytes refusal.Memory told payload each is =
     subst (λ (f : FetchFault). HasReadRow pages old cell below (Err f) new) (sym is) (row_memory pages old new cell below bytes payload)

@@ -11,7 +11,7 @@ use Rattle.tree_spec.specs.Chains.{chain_bytes}
 use Rattle.value_form.specs.declared.value.Value.{Value}
 use Rattle.value_form.specs.declared.fault.RecordFault.{RecordFault}
 use Rattle.value_form.specs.declared.fault.RecordFault.TheVariants as refusal
-use Rattle.value_form.specs.Record.{IsRecord, IsRefused}
+use Rattle.value_form.specs.Record.{IsRecord}
 use Rattle.overflow.specs.Following.{Leads, last_met, all_read, shown_over}
 
 -- how many bytes of a payload its chain has
@@ -39,7 +39,7 @@ pub data BreaksPayload (usable last : ℕ) (shown : Shown) (cell : NodeCell) (be
   BreaksOff : (next left : ℕ) → IsFollowed usable last shown cell chain next left → page ≡ last_met below chain → 0 < left
       → (next < 2) ⊎ (last < next) → BreaksPayload usable last shown cell below chain page
   NoRecord : (next : ℕ) → IsFollowed usable last shown cell chain next 0 → page ≡ below
-      → (why : RecordFault) → IsRefused (payload_bytes usable shown cell chain) why → BreaksPayload usable last shown cell below chain page
+      → ((row : List Value) → IsRecord (payload_bytes usable shown cell chain) row → ⊥) → BreaksPayload usable last shown cell below chain page
 
 -- How reading the payload of a cell of a page ended.
 abbrev pub EndsPayload : (usable last : ℕ) → Shown → NodeCell → (below : ℕ) → List ℕ → Result Unit FetchFault → Type 0
