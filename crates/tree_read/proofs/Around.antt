@@ -1,12 +1,12 @@
 -- What is under a rowid's place is all that may have the rowid.
-use Rattle.std.proofs.Common.{◌≡◌, ℕ, ℤ, zero, suc, ◌+◌, ◌<◌, ◌≤◌, ◌<ℤ◌, ◌≤ℤ◌, true, List, [], ◌∷◌, ◌++◌, length, refl, sym, subst, ap, ◌∙◌, arith, inl, inr, append_assoc, append-nil, length-append}
+use Rattle.std.proofs.Common.{ℕ, ℤ, zero, suc, ◌<◌, ◌≤◌, ◌<ℤ◌, ◌≤ℤ◌, true, List, [], ◌∷◌, ◌++◌, length, refl, sym, subst, ap, ◌∙◌, arith, inl, inr, append_assoc, append-nil, length-append}
 use Rattle.std.proofs.lemmas.Int.{ints}
-use Rattle.std.specs.Prelude.{◌⊎◌, slice_index_or}
+use Rattle.std.specs.Prelude.{slice_index_or}
 use Rattle.node_spec.specs.Cells.{NodeCell}
 use Rattle.node_spec.specs.Nodes.{Node, no_cell}
 use Rattle.tree_spec.specs.Layout.{Each, Item}
 use Rattle.tree_spec.specs.Shown.{Shown}
-use Rattle.tree_spec.specs.Trees.{IsItem, AreItems, AreUnder, IsChild, Content}
+use Rattle.tree_spec.specs.Trees.{AreItems, AreUnder, IsChild, Content}
 use Rattle.tree_spec.proofs.Lists.{each-append}
 use Rattle.tree_read.specs.Ways.{StandsAt, child_at, IsAround}
 

@@ -1,25 +1,27 @@
 -- What looking a row up says of pages.
-use Rattle.std.specs.Prelude.{◌≡◌, ◌⊎◌, ℕ, ℤ, ◌+◌, ◌^◌, ◌<◌, ◌≤◌, ◌==◌, Bool, true, List, [], ◌∷◌, ◌++◌, length, Option, None, Some, MatchOption, Result, Ok, Err, IfErr}
+use Rattle.std.specs.Prelude.{◌≡◌, ◌⊎◌, ℕ, ℤ, suc, ◌^◌, ◌≤◌, ◌<ℤ◌, ◌==◌, Bool, true, List, [], ◌∷◌, ◌++◌, length, Option, None, Some, MatchOption, slice_index_or, Result, Ok, Err, IfErr}
 use Rattle.disk_face.specs.Faults.{Rose}
 use Rattle.page_spec.specs.View.{View}
 use Rattle.engine_spec.specs.declared.commits.FetchFault.{FetchFault}
 use Rattle.engine_spec.specs.declared.commits.FetchFault.TheVariants as fault
 use Rattle.page_face.specs.declared.pages_tells.PagesTells.{Ghosts}
-use Rattle.page_face.specs.Pages.{pages_read}
+use Rattle.page_face.specs.Pages.{pages_read, IsFromOutside}
 use Rattle.node_spec.specs.Kinds.{is_leaf}
 use Rattle.node_spec.specs.Cells.{NodeCell}
-use Rattle.node_spec.specs.Nodes.{Node, node_of}
+use Rattle.node_spec.specs.Nodes.{Node, node_of, no_cell}
 use Rattle.page_form.specs.declared.page.Page.{Page}
 use Rattle.page_form.specs.Reading.{Tells, IsReadPage}
-use Rattle.tree_read.specs.declared.find.Leaf.{Leaf}
+use Rattle.tree_read.specs.declared.way.Leaf.{Leaf}
+use Rattle.tree_read.specs.declared.place.Aim.{Aim}
+use Rattle.tree_read.specs.declared.place.Aim.TheVariants.{Rowid, Last}
 use Rattle.tree_spec.specs.Shown.{Shown}
-use Rattle.tree_spec.specs.Layout.{Item}
+use Rattle.tree_spec.specs.Layout.{Each, Item}
 use Rattle.tree_spec.specs.Trees.{IsTree, IsItem}
 use Rattle.value_form.specs.declared.value.Value.{Value}
 use Rattle.value_form.specs.Record.{IsRecord}
 use Rattle.overflow.specs.Following.{shown_over, all_read}
-use Rattle.tree_read.specs.Ways.{ShowsNode, MayStand, HasRowid, LacksRowid, NamesChild, GoesOn, IsWay, IsAround}
-use Rattle.tree_read.specs.Payloads.{AreOfChain, BreaksPayload, EndsWithRow, IsCause}
+use Rattle.tree_read.specs.Ways.{ShowsNode, MayStand, HasRowid, LacksRowid, NamesChild, GoesOn, IsWay, IsAround, BreaksWay, HasGone}
+use Rattle.tree_read.specs.Payloads.{AreOfChain, BreaksPayload, EndsWithRow}
 
 -- One page.
 
@@ -49,6 +51,10 @@ IsNoNode usable table page level bytes fault.Memory = Unit {0}
 
 -- A whole look-up.
 
+-- where the way comes to nothing was read, or that page alone
+abbrev pub AreReadAt : (below : ℕ) → List ℕ → Type 0
+AreReadAt below after = (after ≡ []) ⊎ (after ≡ below ∷ [])
+
 -- A leaf, so many levels below the root, has a cell with this rowid.
 pub record HasCell (shown : Shown) (level page : ℕ) (rowid : ℤ) (cell : NodeCell) : Type 0 where
   pub node : Node
@@ -70,16 +76,13 @@ AreReadBelow usable last shown level below rowid (page ∷ []) = page ≡ below
 AreReadBelow usable last shown level below rowid (page ∷ (p ∷ ps)) =
     (page ≡ below) × ((cell : NodeCell) × (HasCell shown level below rowid cell × AreOfChain usable last shown cell (p ∷ ps)))
 
--- Why a page is corrupt, as a look-up finds it: the root is out of range; the page that the way comes to breaks its form or may not stand
--- there; it names a child out of range; or the payload of the rowid's cell in it is broken.
-pub data BreaksWay (usable last : ℕ) (shown : Shown) (root : ℕ) (rowid : ℤ) (way : List ℕ) (below : ℕ) (after : List ℕ) (page : ℕ) : Type 0 where
-  RootOutside : way ≡ [] → after ≡ [] → page ≡ root → (root < 1) ⊎ (last < root) → BreaksWay usable last shown root rowid way below after page
-  ShowsNone : after ≡ below ∷ [] → page ≡ below → ((node : Node) → ShowsNode true shown (length way) below node → ⊥)
-      → BreaksWay usable last shown root rowid way below after page
-  ChildOutside : (child : ℕ) → after ≡ below ∷ [] → page ≡ below → NamesChild shown rowid (length way) below child → (child < 2) ⊎ (last < child)
-      → BreaksWay usable last shown root rowid way below after page
-  OfPayload : (cell : NodeCell) (chain : List ℕ) → after ≡ below ∷ chain → HasCell shown (length way) below rowid cell
-      → BreaksPayload usable last shown cell below chain page → BreaksWay usable last shown root rowid way below after page
+-- the payload of the rowid's cell in the page that the way comes to is broken
+pub record BreaksRow (usable last : ℕ) (shown : Shown) (rowid : ℤ) (level below : ℕ) (after : List ℕ) (page : ℕ) : Type 0 where
+  pub cell : NodeCell
+  pub chain : List ℕ
+  pub are : after ≡ below ∷ chain
+  pub has : HasCell shown level below rowid cell
+  pub breaks : BreaksPayload usable last shown cell below chain page
 
 -- How a look-up ended.
 abbrev pub EndsLookUp : (usable last : ℕ) → Shown → (root : ℕ) → ℤ → (way : List ℕ) → (below : ℕ) → (after : List ℕ)
@@ -89,31 +92,56 @@ EndsLookUp usable last shown root rowid way below after (Ok (Some row)) =
     (cell : NodeCell) × ((chain : List ℕ) × ((after ≡ below ∷ chain) × (HasCell shown (length way) below rowid cell
     × EndsWithRow usable last shown cell below chain (Ok row))))
 EndsLookUp usable last shown root rowid way below after (Err fault.Disk) = AreReadBelow usable last shown (length way) below rowid after
-EndsLookUp usable last shown root rowid way below after (Err (fault.Corrupt page)) = BreaksWay usable last shown root rowid way below after page
+EndsLookUp usable last shown root rowid way below after (Err (fault.Corrupt page)) =
+    BreaksWay true last shown (NamesChild shown (Rowid rowid)) root way below after page ⊎ BreaksRow usable last shown rowid (length way) below after page
 EndsLookUp usable last shown root rowid way below after (Err (fault.Size pages)) = ⊥
 EndsLookUp usable last shown root rowid way below after (Err fault.Memory) = AreReadBelow usable last shown (length way) below rowid after
 
--- A row was looked up: the pages of the way down were read, and these from where it comes to, and no others. Over each world that is still
--- told it is the way towards the rowid, and ended so.
-pub record HasLooked {P : Type 0} (pages : Ghosts P) (old : P) (root : ℕ) (rowid : ℤ) (result : Result (Option (List Value)) FetchFault) (new : P) : Type 0 where
-  pub way : List ℕ
-  pub below : ℕ
-  pub after : List ℕ
-  pub read : pages.reads new ≡ all_read (pages.has old) (pages.reads old) (way ++ after)
-  pub leads : (world : View) → pages.tells new world → IsWay (GoesOn (pages.last_page old) (shown_over pages old world) rowid) 0 root way below
-  pub ends : (world : View) → pages.tells new world
-      → EndsLookUp (pages.usable old) (pages.last_page old) (shown_over pages old world) root rowid way below after result
-  pub cause : IfErr result (IsCause (pages.faults old) (pages.faults new))
+-- A row was looked up.
+abbrev pub HasLooked : {P : Type 0} → Ghosts P → P → (root : ℕ) (rowid : ℤ) → Result (Option (List Value)) FetchFault → P → Type 0
+HasLooked pages old root rowid result new =
+    HasGone pages old (λ shown. NamesChild shown (Rowid rowid)) root (λ shown. EndsLookUp (pages.usable old) (pages.last_page old) shown root rowid) result new
 
 -- The way down came to a leaf, whose bytes these are, and it was read.
-pub record HasDescended {P : Type 0} (pages : Ghosts P) (old : P) (root : ℕ) (rowid : ℤ) (bytes : List ℕ) (leaf : Leaf) (new : P) : Type 0 where
+pub record HasDescended {P : Type 0} (pages : Ghosts P) (old : P) (root : ℕ) (aim : Aim) (bytes : List ℕ) (leaf : Leaf) (new : P) : Type 0 where
   pub way : List ℕ
   pub node : Node
   pub tells : IsReadPage (pages.usable old) bytes leaf.node node
   pub is_leaf : is_leaf node.kind ≡ true
   pub read : pages.reads new ≡ all_read (pages.has old) (pages.reads old) (way ++ leaf.page ∷ [])
-  pub leads : (world : View) → pages.tells new world → IsWay (GoesOn (pages.last_page old) (shown_over pages old world) rowid) 0 root way leaf.page
+  pub leads : (world : View) → pages.tells new world → IsWay (GoesOn (pages.last_page old) (NamesChild (shown_over pages old world) aim)) 0 root way leaf.page
   pub shows : (world : View) → pages.tells new world → ShowsNode true (shown_over pages old world) (length way) leaf.page node
+
+-- Why a way down came to no leaf.
+abbrev pub EndsBefore : (last : ℕ) → (root : ℕ) → Aim → Shown → (way : List ℕ) → (below : ℕ) → (after : List ℕ) → FetchFault → Type 0
+EndsBefore last root aim shown way below after fault.Disk = AreReadAt below after
+EndsBefore last root aim shown way below after (fault.Corrupt page) = BreaksWay true last shown (NamesChild shown aim) root way below after page
+EndsBefore last root aim shown way below after (fault.Size pages) = ⊥
+EndsBefore last root aim shown way below after fault.Memory = AreReadAt below after
+
+abbrev pub IsBarred : {P : Type 0} → Ghosts P → P → (root : ℕ) → Aim → FetchFault → P → Type 0
+IsBarred pages old root aim why new = HasGone {T = Unit {0}} pages old (λ shown. NamesChild shown aim) root
+    (λ shown way below after result. IfErr result (EndsBefore (pages.last_page old) root aim shown way below after)) (Err why) new
+
+-- What looking for the last rowid says: the last cell's, none where there is no cell.
+abbrev pub IsLastRowid : List NodeCell → Option ℤ → Type 0
+IsLastRowid cells found = MatchOption found (cells ≡ []) (λ rowid. (k : ℕ) × ((length cells ≡ suc k) × (rowid ≡ (slice_index_or cells k no_cell).rowid)))
+
+-- A leaf, so many levels below the root, has this last rowid.
+pub record HasLast (shown : Shown) (level page : ℕ) (found : Option ℤ) : Type 0 where
+  pub node : Node
+  pub shows : ShowsNode true shown level page node
+  pub leaf : is_leaf node.kind ≡ true
+  pub is_last : IsLastRowid node.cells found
+
+-- How looking for the last rowid ended.
+abbrev pub EndsLast : (last root : ℕ) → Shown → (way : List ℕ) → (below : ℕ) → (after : List ℕ) → Result (Option ℤ) FetchFault → Type 0
+EndsLast last root shown way below after (Ok found) = (after ≡ below ∷ []) × HasLast shown (length way) below found
+EndsLast last root shown way below after (Err why) = EndsBefore last root Last shown way below after why
+
+-- The last rowid was looked for.
+abbrev pub HasLookedLast : {P : Type 0} → Ghosts P → P → (root : ℕ) → Result (Option ℤ) FetchFault → P → Type 0
+HasLookedLast pages old root result new = HasGone pages old (λ shown. NamesChild shown Last) root (EndsLast (pages.last_page old) root) result new
 
 -- Said of trees.
 
@@ -154,3 +182,17 @@ IsOfRow usable last shown before after rowid items fault.Memory = Unit {0}
 abbrev pub FailsRow : {P : Type 0} → Ghosts P → P → (root : ℕ) (rowid : ℤ) → FetchFault → P → Type 0
 FailsRow pages old root rowid why new = (items : List Item) (there : ThereIsTree true pages old root items new)
     → IsOfRow (pages.usable old) (pages.last_page old) (shown_over pages old there.world) (pages.faults old) (pages.faults new) rowid items why
+
+-- the last of the items has this key, which is greater than all others; none where there is no item
+abbrev pub IsLastKey : List Item → Option ℤ → Type 0
+IsLastKey items found = MatchOption found (items ≡ [])
+    (λ rowid. (front : List Item) × ((item : Item) × ((items ≡ front ++ item ∷ []) × ((item.key ≡ rowid) × Each (λ (other : Item). other.key <ℤ rowid) front))))
+
+-- Over each world in which the root has a table's tree the answer is that of its items.
+abbrev pub FindsLast : {P : Type 0} → Ghosts P → P → (root : ℕ) → Option ℤ → P → Type 0
+FindsLast pages old root found new = (world : View) → pages.tells new world → (bound height : ℕ) (own : List ℕ) (items : List Item)
+    → IsTree true (pages.usable old) bound (shown_over pages old world) height root own items → IsLastKey items found
+
+-- over such a tree a fault is from outside
+abbrev pub FailsLast : {P : Type 0} → Ghosts P → P → (root : ℕ) → FetchFault → P → Type 0
+FailsLast pages old root why new = (items : List Item) → ThereIsTree true pages old root items new → IsFromOutside (pages.faults old) (pages.faults new) why

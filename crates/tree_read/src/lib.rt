@@ -5,8 +5,11 @@
 #![tactic(auto)]
 
 mod find;
+mod last;
 mod node;
 mod place;
 mod row;
+mod way;
 
 pub use find::find_row;
+pub use last::last_row;

@@ -3,7 +3,8 @@ ghost use Rattle.std.specs.Prelude.{◌≡◌, MatchOption};
 ghost use Rattle.node_spec.specs.Cells.{NodeCell};
 ghost use Rattle.node_spec.specs.Nodes.{Node};
 ghost use Rattle.page_form.specs.Reading.{IsReadPage, TellsCell};
-ghost use Rattle.tree_read.specs.Ways.{StandsAt, IsNext, HasRowid, LacksRowid};
+ghost use Rattle.tree_read.specs.Ways.{StandsAt, IsNext, IsAimed, HasRowid, LacksRowid};
+ghost use Rattle.tree_read.specs.Looking.{IsLastRowid};
 
 use page_form::{Cell, Page, read_cell};
 
@@ -25,8 +26,28 @@ fn place_of(page: &Page, bytes: &[u8], u: usize, rowid: i64) -> usize
     low
 }
 
+// Where a way down a table's tree goes.
+#[derive(Clone, Copy)]
+pub(crate) enum Aim {
+    // To a rowid.
+    Rowid(i64),
+    // To the last cell.
+    Last,
+}
+
+// The child that is next on the way.
+pub(crate) fn next_child(page: &Page, bytes: &[u8], u: usize, aim: Aim) -> u32
+    requires { (node : Node) × IsReadPage u bytes.now page.now node }
+    ensures { (node : Node) → IsReadPage u bytes.now page.now node → IsAimed node aim result }
+{
+    match aim {
+        Aim::Rowid(rowid) => child_of(page, bytes, u, rowid),
+        Aim::Last => page.right,
+    }
+}
+
 // The child at a rowid's place: that of the cell there, past all cells the right one.
-pub(crate) fn child_of(page: &Page, bytes: &[u8], u: usize, rowid: i64) -> u32
+fn child_of(page: &Page, bytes: &[u8], u: usize, rowid: i64) -> u32
     requires { (node : Node) × IsReadPage u bytes.now page.now node }
     ensures { (node : Node) → IsReadPage u bytes.now page.now node → IsNext node rowid result }
 {
@@ -50,4 +71,17 @@ pub(crate) fn cell_of(page: &Page, bytes: &[u8], u: usize, rowid: i64) -> Option
     }
     let cell = read_cell(page, bytes, u, place);
     if rowid < cell.rowid { None } else { Some(cell) }
+}
+
+// The rowid of the last cell.
+pub(crate) fn last_rowid(page: &Page, bytes: &[u8], u: usize) -> Option<i64>
+    requires { (node : Node) × IsReadPage u bytes.now page.now node }
+    ensures { (node : Node) → IsReadPage u bytes.now page.now node → IsLastRowid node.cells result }
+{
+    let count = page.cells.len();
+    if count == 0 {
+        None
+    } else {
+        Some(read_cell(page, bytes, u, count - 1).rowid)
+    }
 }

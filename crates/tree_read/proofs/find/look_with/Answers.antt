@@ -1,7 +1,7 @@
-use Rattle.std.proofs.Common.{◌≡◌, ℕ, ℤ, Ok, Err, Some, None, refl, sym, subst, ◌∙◌, arith, w64, to_z, of_z}
+use Rattle.std.proofs.Common.{ℤ, Ok, Err, Some, None, subst, ◌∙◌, arith, w64, to_z, of_z}
 use Rattle.std.proofs.lemmas.Int.{to_z-of_z, ints}
 use Rattle.tree_read.specs.Looking.{HasLooked}
-use Rattle.tree_read.proofs.Descents.{lacks_row, looked_row, looked_fault, cell_again, page_again}
+use Rattle.tree_read.proofs.Descents.{lacks_row, looked_row, looked_fault, barred_row, cell_again, page_again}
 use Rattle.tree_read.proofs.find.look_with.Goals as goal
 
 pub returns-in_default-clause-looked : goal.returns-in_default-clause-looked
@@ -37,3 +37,8 @@ returns-clause-looked g c =
     (looked_fault p c.args.pages.now c.descend.new.pages c.read_row.new.pages c.args.root (to_z w64 (of_z w64 c.args.rowid)) c.descend.new.buf c.in-Ok.leaf found.0 c.in-Err-read_row.why
     c.in-Ok.ensures.reading c.in-Err-read_row.ensures.reading done found.1.1
     (c.in-Err-read_row.ensures.row found.0 (cell_again _ _ _ _ _ _ _ c.usable_of-usable.ensures.value done.tells.tells.kind found.1.0)))
+
+pub returns-in-Err-clause-looked : goal.returns-in-Err-clause-looked
+returns-in-Err-clause-looked g c =
+    subst (λ (z : ℤ). HasLooked g.P.PagesTells c.args.pages.now c.args.root z (Err c.in-Err.why) c.descend.new.pages) (to_z-of_z w64 c.args.rowid (omega (arith, ints, c.ranges.rowid.sfits)))
+    (barred_row g.P.PagesTells c.args.pages.now c.descend.new.pages c.args.root (to_z w64 (of_z w64 c.args.rowid)) c.in-Err.why c.in-Err.ensures.barred)

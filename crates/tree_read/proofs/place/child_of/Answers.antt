@@ -1,4 +1,4 @@
-use Rattle.std.proofs.Common.{◌≡◌, ℤ, ◌∙◌, sym, subst, arith, w64}
+use Rattle.std.proofs.Common.{ℤ, ◌∙◌, sym, subst, arith, w64}
 use Rattle.std.proofs.lemmas.Int.{to_z-of_z, ints}
 use Rattle.tree_read.specs.Ways.{StandsAt}
 use Rattle.tree_read.proofs.Nodes.{child_inside, child_past}

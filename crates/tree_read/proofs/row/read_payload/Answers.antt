@@ -1,5 +1,4 @@
-use Rattle.std.proofs.Common.{◌≡◌, ℕ, ◌<◌, ◌≤◌, ◌+◌, ◌∙◌, [], ◌++◌, List, length, refl, sym, ap, subst, arith, inl, inr}
-use Rattle.std.specs.Prelude.{◌⊎◌}
+use Rattle.std.proofs.Common.{◌≡◌, ℕ, ◌∙◌, ◌++◌, List, length, ap, arith, inl, inr}
 use Rattle.tree_read.proofs.Payloads.{local_small, too_large, no_memory, begins_outside, all_followed, part_followed}
 use Rattle.tree_read.proofs.row.read_payload.Goals as goal
 
