@@ -40,12 +40,11 @@ too_large pages old cell below bytes large = record {
 }
 
 -- no memory for what the cell stores
-pub no_memory : {P : Type 0} (pages : Ghosts P) (old : P) (cell : NodeCell) (below : ℕ) (bytes : List ℕ) (why : FetchFault) → why ≡ fault.Memory
-    → HasReadPayload pages old cell below (Err why) bytes old
-no_memory pages old cell below bytes why is = subst (λ (w : FetchFault). HasReadPayload pages old cell below (Err w) bytes old) (sym is) (record {
+pub row_no_memory : {P : Type 0} (pages : Ghosts P) (old : P) (cell : NodeCell) (below : ℕ) (why : FetchFault) → why ≡ fault.Memory
+    → HasReadRow pages old cell below (Err why) old
+row_no_memory pages old cell below why is = subst (λ (w : FetchFault). HasReadRow pages old cell below (Err w) old) (sym is) (record {
   chain = [];
   read = refl;
-  bytes_are = λ world told. tt;
   ends = λ world told. tt;
   cause = tt;
 })

@@ -6,6 +6,7 @@ use Rattle.engine_spec.specs.declared.commits.FetchFault.{FetchFault}
 use Rattle.engine_spec.specs.declared.commits.FetchFault.TheVariants as fault
 use Rattle.page_face.specs.declared.pages_tells.PagesTells.{Ghosts}
 use Rattle.node_spec.specs.Cells.{NodeCell}
+use Rattle.page_form.specs.declared.cells.Cell.{Cell}
 use Rattle.tree_spec.specs.Shown.{Shown}
 use Rattle.tree_spec.specs.Chains.{chain_bytes}
 use Rattle.value_form.specs.declared.value.Value.{Value}
@@ -71,6 +72,14 @@ IsCause before after fault.Disk = Rose before after
 IsCause before after (fault.Corrupt page) = Unit {0}
 IsCause before after (fault.Size pages) = ⊥
 IsCause before after fault.Memory = Unit {0}
+
+-- what was told of a cell, and the bytes that it stores
+pub record IsCopied (told : Cell) (cell : NodeCell) (bytes : List ℕ) : Type 0 where
+  pub payload : told.payload ≡ cell.payload
+  pub local : told.local ≡ length cell.local
+  pub overflow : told.overflow ≡ cell.overflow
+  pub bytes_are : bytes ≡ cell.local
+  pub few : length bytes ≤ 65536
 
 -- A payload was read: these pages of its chain were read and no others, and over each world that is still told they are those that it leads
 -- to. It went well only where no bytes are left, and then these are its bytes.

@@ -1,10 +1,10 @@
 // The row of a cell, read with the chain that its payload's end is in.
-ghost use Rattle.std.specs.Prelude.{◌≡◌, ◌⊎◌, ℕ, true, false, ◌^◌, ◌<◌, ◌≤◌, ◌++◌, [], length, IfErr, OnOk};
+ghost use Rattle.std.specs.Prelude.{◌≡◌, ◌⊎◌, ℕ, true, false, ◌^◌, ◌<◌, ◌≤◌, length, IfOk, IfErr, OnOk};
 ghost use Rattle.engine_spec.specs.declared.commits.FetchFault.TheVariants as fault;
 ghost use Rattle.page_face.specs.Pages.{ReadsAtMost};
 ghost use Rattle.node_spec.specs.Cells.{NodeCell};
 ghost use Rattle.page_form.specs.Reading.{TellsCell};
-ghost use Rattle.tree_read.specs.Payloads.{HasReadPayload, HasReadRow, IsRecordCause};
+ghost use Rattle.tree_read.specs.Payloads.{HasReadPayload, HasReadRow, IsCopied, IsRecordCause};
 
 use crate::node::is_outside;
 use overflow::read_chain_with;
@@ -33,8 +33,30 @@ pub(crate) fn read_row<P: Pages>(
         → HasReadRow P.PagesTells pages.old node page result pages.new }
     ensures reading { ReadsAtMost P.PagesTells pages.old pages.new }
 {
-    let mut bytes = Vec::new(alloc);
-    match read_payload(pages, page, kind, cell, buf, &mut bytes) {
+    match local_of(alloc, cell, kind, buf) {
+        Ok(bytes) => row_of(alloc, pages, page, cell, bytes, buf),
+        Err(why) => Err(why),
+    }
+}
+
+// The same from the bytes that the cell stores, with a buffer of one page for the chain.
+pub(crate) fn row_of<P: Pages>(
+    alloc: Global,
+    pages: &mut P,
+    page: u32,
+    cell: &Cell,
+    bytes: Vec<u8>,
+    room: &mut [u8],
+) -> Result<Row, FetchFault>
+    requires ready { P.ready pages.old }
+    requires room { length room.old ≡ P.page_size pages.old }
+    requires copied { (node : NodeCell) × IsCopied cell.now node bytes.items }
+    ensures row { (node : NodeCell) → IsCopied cell.now node bytes.items → HasReadRow P.PagesTells pages.old node page result pages.new }
+    ensures reading { ReadsAtMost P.PagesTells pages.old pages.new }
+    ensures room { length room.new ≡ length room.old }
+{
+    let mut bytes = bytes;
+    match read_rest(pages, page, cell, room, &mut bytes) {
         Ok(()) => (),
         Err(why) => return Err(why),
     }
@@ -56,37 +78,31 @@ fn record_fault(why: RecordFault, page: u32) -> FetchFault
     }
 }
 
-// Puts the payload of a cell, fewer than 2^32 bytes, into a list without bytes.
-fn read_payload<P: Pages>(
+// Appends the rest of the payload of a cell to the bytes that it stores, fewer than 2^32 in all.
+fn read_rest<P: Pages>(
     pages: &mut P,
     page: u32,
-    kind: Kind,
     cell: &Cell,
-    buf: &mut [u8],
+    room: &mut [u8],
     to: &mut Vec<u8>,
 ) -> Result<(), FetchFault>
     requires ready { P.ready pages.old }
-    requires room { length buf.old ≡ P.page_size pages.old }
-    requires small { P.usable pages.old ≤ 65536 }
-    requires cell { (node : NodeCell) × TellsCell (P.usable pages.old) kind buf.old cell.now node }
-    requires empty { to.old.items ≡ [] }
-    ensures payload { (node : NodeCell) → TellsCell (P.usable pages.old) kind buf.old cell.now node
+    requires room { length room.old ≡ P.page_size pages.old }
+    requires copied { (node : NodeCell) × IsCopied cell.now node to.old.items }
+    ensures payload { (node : NodeCell) → IsCopied cell.now node to.old.items
         → HasReadPayload P.PagesTells pages.old node page result to.new.items pages.new }
     ensures small { OnOk result (length to.new.items < 2 ^ 32) }
     ensures reading { ReadsAtMost P.PagesTells pages.old pages.new }
+    ensures room { length room.new ≡ length room.old }
 {
     if cell.payload > u64::from(u32::MAX) {
         return Err(FetchFault::Corrupt { page });
-    }
-    match append_local(to, cell, kind, buf) {
-        Ok(()) => (),
-        Err(why) => return Err(why),
     }
     let left = cell.payload.saturating_sub(cell.local as u64);
     if begins_outside(cell.overflow, left, pages.last()) {
         return Err(FetchFault::Corrupt { page });
     }
-    match read_chain_with(pages, cell.overflow, left, buf, to) {
+    match read_chain_with(pages, cell.overflow, left, room, to) {
         Ok(()) => Ok(()),
         Err(why) => Err(why),
     }
@@ -100,14 +116,16 @@ fn begins_outside(first: u32, size: u64, last: u32) -> bool
     size > 0 && is_outside(first, last)
 }
 
-// Appends the bytes that a cell stores of its payload.
-fn append_local(to: &mut Vec<u8>, cell: &Cell, kind: Kind, page: &[u8]) -> Result<(), FetchFault>
+// The bytes that a cell of a page stores of its payload.
+pub(crate) fn local_of(alloc: Global, cell: &Cell, kind: Kind, page: &[u8]) -> Result<Vec<u8>, FetchFault>
     requires { (usable : ℕ) × ((node : NodeCell) × TellsCell usable kind page.now cell.now node) }
-    ensures ok { OnOk result ((usable : ℕ) (node : NodeCell) → TellsCell usable kind page.now cell.now node → to.new.items ≡ to.old.items ++ node.local) }
+    ensures copied { IfOk result (λ bytes. (usable : ℕ) (node : NodeCell) → usable ≤ 65536 → TellsCell usable kind page.now cell.now node
+        → IsCopied cell.now node bytes.items) }
     ensures cause { IfErr result (λ why. why ≡ fault.Memory) }
 {
-    match to.extend_from_slice(cell.local_bytes(kind, page)) {
-        Ok(()) => Ok(()),
+    let mut bytes = Vec::new(alloc);
+    match bytes.extend_from_slice(cell.local_bytes(kind, page)) {
+        Ok(()) => Ok(bytes),
         Err(_) => Err(FetchFault::Memory),
     }
 }

@@ -1,0 +1,86 @@
+-- What looking an entry of an index up says of pages.
+use Rattle.std.specs.Prelude.{◌≡◌, ◌⊎◌, ℕ, suc, ◌^◌, ◌<◌, ◌≤◌, Bool, true, false, List, [], ◌∷◌, ◌++◌, length, Result, Ok, Err, IfErr}
+use Rattle.std.specs.declared.cmp.Ordering.{Ordering}
+use Rattle.std.specs.declared.cmp.Ordering.TheVariants.{Less, Equal, Greater}
+use Rattle.disk_face.specs.Faults.{Rose}
+use Rattle.page_spec.specs.View.{View}
+use Rattle.engine_spec.specs.declared.commits.FetchFault.{FetchFault}
+use Rattle.engine_spec.specs.declared.commits.FetchFault.TheVariants as fault
+use Rattle.page_face.specs.declared.pages_tells.PagesTells.{Ghosts}
+use Rattle.node_spec.specs.Kinds.{is_leaf}
+use Rattle.node_spec.specs.Cells.{NodeCell}
+use Rattle.node_spec.specs.Nodes.{Node, cell_at}
+use Rattle.tree_spec.specs.Shown.{Shown}
+use Rattle.tree_spec.specs.Layout.{Each, Item}
+use Rattle.tree_spec.specs.Trees.{IsTree, IsItem}
+use Rattle.value_form.specs.declared.value.Value.{Value}
+use Rattle.value_form.specs.Order.{row_order}
+use Rattle.value_form.specs.Record.{IsRecord}
+use Rattle.overflow.specs.Following.{shown_over, all_read}
+use Rattle.tree_read.specs.declared.entry.Spot.{Spot}
+use Rattle.tree_read.specs.declared.entry.Spot.TheVariants.{At, Before}
+use Rattle.tree_read.specs.Ways.{ShowsNode, child_at, GoesOn, IsWay, BreaksWay}
+use Rattle.tree_read.specs.Payloads.{IsFollowed, AreOfChain, BreaksPayload, EndsWithRow, IsCause, payload_bytes}
+use Rattle.tree_read.specs.Looking.{ThereIsTree, IsNoRow}
+
+-- One page.
+
+-- a cell of a node has a row, which compares so with the entry
+pub record Compares (usable last : ℕ) (shown : Shown) (node : Node) (k : ℕ) (entry : List Value) (order : Ordering) : Type 0 where
+  pub inside : k < length node.cells
+  pub chain : List ℕ
+  pub next : ℕ
+  pub row : List Value
+  pub followed : IsFollowed usable last shown (cell_at node k) chain next 0
+  pub is_record : IsRecord (payload_bytes usable shown (cell_at node k) chain) row
+  pub order_is : order ≡ row_order row entry
+
+-- an entry's place among cells: that before it has a smaller row, and the cell at it, if there is one, a greater one
+pub record EntryStandsAt (usable last : ℕ) (shown : Shown) (node : Node) (entry : List Value) (place : ℕ) : Type 0 where
+  pub most : place ≤ length node.cells
+  pub above : (k : ℕ) → place ≡ suc k → Compares usable last shown node k entry Less
+  pub below : place < length node.cells → Compares usable last shown node place entry Greater
+
+-- a page of the chain of a cell
+pub record IsOfCells (usable last : ℕ) (shown : Shown) (node : Node) (page : ℕ) : Type 0 where
+  pub k : ℕ
+  pub inside : k < length node.cells
+  pub front : List ℕ
+  pub rest : List ℕ
+  pub are : AreOfChain usable last shown (cell_at node k) (front ++ page ∷ rest)
+
+-- the payload of some cell is broken
+pub record BreaksCell (usable last : ℕ) (shown : Shown) (node : Node) (below page : ℕ) : Type 0 where
+  pub k : ℕ
+  pub inside : k < length node.cells
+  pub chain : List ℕ
+  pub breaks : BreaksPayload usable last shown (cell_at node k) below chain page
+
+-- How looking for an entry among the cells of a page ended.
+abbrev pub EndsSeek : (usable last : ℕ) → Shown → Node → (below : ℕ) → List Value → Result Spot FetchFault → Type 0
+EndsSeek usable last shown node below entry (Ok At) = (k : ℕ) × Compares usable last shown node k entry Equal
+EndsSeek usable last shown node below entry (Ok (Before place)) = EntryStandsAt usable last shown node entry place
+EndsSeek usable last shown node below entry (Err fault.Disk) = Unit {0}
+EndsSeek usable last shown node below entry (Err (fault.Corrupt page)) = BreaksCell usable last shown node below page
+EndsSeek usable last shown node below entry (Err (fault.Size pages)) = ⊥
+EndsSeek usable last shown node below entry (Err fault.Memory) = Unit {0}
+
+-- An entry was looked for among the cells of a page: pages of their chains were read and no others.
+pub record HasSought {P : Type 0} (pages : Ghosts P) (old : P) (node : Node) (below : ℕ) (entry : List Value) (result : Result Spot FetchFault) (new : P) : Type 0 where
+  pub list : List ℕ
+  pub read : pages.reads new ≡ all_read (pages.has old) (pages.reads old) list
+  pub are : (world : View) → pages.tells new world → Each (IsOfCells (pages.usable old) (pages.last_page old) (shown_over pages old world) node) list
+  pub ends : (world : View) → pages.tells new world → EndsSeek (pages.usable old) (pages.last_page old) (shown_over pages old world) node below entry result
+  pub cause : IfErr result (IsCause (pages.faults old) (pages.faults new))
+
+-- How comparing one cell's row ended.
+abbrev pub EndsCompare : (usable last : ℕ) → Shown → NodeCell → (below : ℕ) → List Value → List ℕ → Result Ordering FetchFault → Type 0
+EndsCompare usable last shown cell below entry chain (Ok order) =
+    (row : List Value) × (EndsWithRow usable last shown cell below chain (Ok row) × (order ≡ row_order row entry))
+EndsCompare usable last shown cell below entry chain (Err why) = EndsWithRow usable last shown cell below chain (Err why)
+
+pub record HasCompared {P : Type 0} (pages : Ghosts P) (old : P) (cell : NodeCell) (below : ℕ) (entry : List Value) (result : Result Ordering FetchFault) (new : P) : Type 0 where
+  pub chain : List ℕ
+  pub read : pages.reads new ≡ all_read (pages.has old) (pages.reads old) chain
+  pub ends : (world : View) → pages.tells new world → EndsCompare (pages.usable old) (pages.last_page old) (shown_over pages old world) cell below entry chain result
+  pub cause : IfErr result (IsCause (pages.faults old) (pages.faults new))

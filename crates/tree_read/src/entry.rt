@@ -1,0 +1,87 @@
+// An entry of an index, looked up.
+ghost use Rattle.std.specs.Prelude.{◌≡◌, ℕ, ◌<◌, ◌≤◌, length, vec_len};
+ghost use Rattle.page_face.specs.Pages.{ReadsAtMost};
+ghost use Rattle.node_spec.specs.Cells.{NodeCell};
+ghost use Rattle.node_spec.specs.Nodes.{Node, cell_at};
+ghost use Rattle.page_form.specs.Reading.{IsReadPage};
+ghost use Rattle.tree_read.specs.Entries.{HasSought, HasCompared};
+
+use crate::row::{local_of, row_of};
+use page_face::{FetchFault, Pages};
+use page_form::{Page, read_cell};
+use std::alloc::Global;
+use std::cmp::Ordering;
+use value_form::{Row, order_rows};
+
+// Where an entry stands among the cells of a page.
+#[derive(Clone, Copy)]
+pub(crate) enum Spot {
+    // A cell has it.
+    At,
+    // None has it, and it stands before the cell of this place, or behind all.
+    Before(usize),
+}
+
+// How the row of a cell compares with an entry.
+fn compare_cell<P: Pages>(
+    alloc: Global,
+    pages: &mut P,
+    page: u32,
+    node: &Page,
+    k: usize,
+    bytes: &[u8],
+    entry: &Row,
+    room: &mut [u8],
+) -> Result<Ordering, FetchFault>
+    requires ready { P.ready pages.old }
+    requires room { length room.old ≡ P.page_size pages.old }
+    requires small { P.usable pages.old ≤ 65536 }
+    requires cell { (shown : Node) × (IsReadPage (P.usable pages.old) bytes.now node.now shown × (k < length shown.cells)) }
+    ensures compared { (shown : Node) → IsReadPage (P.usable pages.old) bytes.now node.now shown
+        → HasCompared P.PagesTells pages.old (cell_at shown k) page entry.now result pages.new }
+    ensures reading { ReadsAtMost P.PagesTells pages.old pages.new }
+    ensures room { length room.new ≡ length room.old }
+{
+    let cell = read_cell(node, bytes, pages.usable(), k);
+    let local = match local_of(alloc, &cell, node.kind, bytes) {
+        Ok(local) => local,
+        Err(why) => return Err(why),
+    };
+    match row_of(alloc, pages, page, &cell, local, room) {
+        Ok(row) => Ok(order_rows(&row, entry)),
+        Err(why) => Err(why),
+    }
+}
+
+// Looks for an entry among the cells of a page, whose rows rise, by halving. Where they don't rise it is still a place between two that fit.
+pub(crate) fn seek<P: Pages>(
+    alloc: Global,
+    pages: &mut P,
+    page: u32,
+    node: &Page,
+    bytes: &[u8],
+    entry: &Row,
+    room: &mut [u8],
+) -> Result<Spot, FetchFault>
+    requires ready { P.ready pages.old }
+    requires room { length room.old ≡ P.page_size pages.old }
+    requires small { P.usable pages.old ≤ 65536 }
+    requires page { (shown : Node) × IsReadPage (P.usable pages.old) bytes.now node.now shown }
+    ensures sought { (shown : Node) → IsReadPage (P.usable pages.old) bytes.now node.now shown
+        → HasSought P.PagesTells pages.old shown page entry.now result pages.new }
+    ensures reading { ReadsAtMost P.PagesTells pages.old pages.new }
+    ensures room { length room.new ≡ length room.old }
+{
+    let mut low = 0;
+    let mut high = node.cells.len();
+    'halves: while low < high {
+        let middle = low + (high - low) / 2;
+        match compare_cell(alloc, pages, page, node, middle, bytes, entry, room) {
+            Ok(Ordering::Equal) => return Ok(Spot::At),
+            Ok(Ordering::Less) => low = middle + 1,
+            Ok(Ordering::Greater) => high = middle,
+            Err(why) => return Err(why),
+        }
+    }
+    Ok(Spot::Before(low))
+}
