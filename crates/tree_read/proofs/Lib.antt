@@ -4,3 +4,4 @@ pub mod Nodes
 pub mod Payloads
 pub mod Descents
 pub mod Trees
+pub mod Seeking

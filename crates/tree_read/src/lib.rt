@@ -4,6 +4,7 @@
 //! with no smaller rowid, and goes on at the child there. It fetches one page a level, and the pages of the row's chain.
 #![tactic(auto)]
 
+mod entry;
 mod find;
 mod last;
 mod node;
