@@ -64,7 +64,7 @@ pub record SoFar {P : Type 0} (pages : Ghosts P) (old now : P) (Names : Shown �
 pub nothing_yet : {P : Type 0} (pages : Ghosts P) (old : P) (Names : Shown → (level page child : ℕ) → Type 0) (root : ℕ) → SoFar pages old old Names root [] root
 nothing_yet pages old Names root = record { read = refl; leads = λ world told. refl }
 
-way_more : (Goes : (level page child : ℕ) → Type 0) (level page : ℕ) (way : List ℕ) (below child deep : ℕ) → deep ≡ level + length way
+pub way_more : (Goes : (level page child : ℕ) → Type 0) (level page : ℕ) (way : List ℕ) (below child deep : ℕ) → deep ≡ level + length way
     → IsWay Goes level page way below → Goes deep below child → IsWay Goes level page (way ++ below ∷ []) child
 way_more Goes level page [] below child deep is leads goes =
     (leads, (child, subst (λ (p : ℕ). Goes level p child) leads (subst (λ (l : ℕ). Goes l below child) (omega (arith, is)) goes), refl))

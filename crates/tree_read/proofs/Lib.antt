@@ -5,3 +5,4 @@ pub mod Payloads
 pub mod Descents
 pub mod Trees
 pub mod Seeking
+pub mod Searching

@@ -1,5 +1,5 @@
 -- What looking an entry of an index up says of pages.
-use Rattle.std.specs.Prelude.{◌≡◌, ◌⊎◌, ℕ, suc, ◌^◌, ◌<◌, ◌≤◌, Bool, true, false, List, [], ◌∷◌, ◌++◌, length, Result, Ok, Err, IfErr}
+use Rattle.std.specs.Prelude.{◌≡◌, ◌⊎◌, ℕ, suc, ◌^◌, ◌<◌, ◌≤◌, Bool, true, false, List, [], ◌∷◌, ◌++◌, length, Some, Result, Ok, Err, IfErr}
 use Rattle.std.specs.declared.cmp.Ordering.{Ordering}
 use Rattle.std.specs.declared.cmp.Ordering.TheVariants.{Less, Equal, Greater}
 use Rattle.disk_face.specs.Faults.{Rose}
@@ -83,4 +83,74 @@ pub record HasCompared {P : Type 0} (pages : Ghosts P) (old : P) (cell : NodeCel
   pub chain : List ℕ
   pub read : pages.reads new ≡ all_read (pages.has old) (pages.reads old) chain
   pub ends : (world : View) → pages.tells new world → EndsCompare (pages.usable old) (pages.last_page old) (shown_over pages old world) cell below entry chain result
+  pub cause : IfErr result (IsCause (pages.faults old) (pages.faults new))
+
+-- A whole look-up.
+
+-- An interior page of an index, so many levels below the root, names this child at the entry's place.
+pub record NamesEntryChild (usable last : ℕ) (shown : Shown) (entry : List Value) (level page child : ℕ) : Type 0 where
+  pub node : Node
+  pub shows : ShowsNode false shown level page node
+  pub inner : is_leaf node.kind ≡ false
+  pub place : ℕ
+  pub stands : EntryStandsAt usable last shown node entry place
+  pub child_is : child ≡ child_at node.cells node.right place
+
+-- the pages have a page
+abbrev pub IsOneOf : List ℕ → ℕ → Type 0
+IsOneOf [] page = ⊥
+IsOneOf (p ∷ ps) page = (page ≡ p) ⊎ IsOneOf ps page
+
+-- a page of the chain of a cell of one of the pages
+pub record IsChainPage (usable last : ℕ) (shown : Shown) (pages : List ℕ) (page : ℕ) : Type 0 where
+  pub owner : ℕ
+  pub among : IsOneOf pages owner
+  pub node : Node
+  pub holds : shown.node owner ≡ Some node
+  pub of : IsOfCells usable last shown node page
+
+-- A page has the entry in one of its cells.
+pub record HasEntry (usable last : ℕ) (shown : Shown) (level page : ℕ) (entry : List Value) : Type 0 where
+  pub node : Node
+  pub shows : ShowsNode false shown level page node
+  pub k : ℕ
+  pub compares : Compares usable last shown node k entry Equal
+
+-- A leaf hasn't, where the entry would stand.
+pub record LacksEntry (usable last : ℕ) (shown : Shown) (level page : ℕ) (entry : List Value) : Type 0 where
+  pub node : Node
+  pub shows : ShowsNode false shown level page node
+  pub leaf : is_leaf node.kind ≡ true
+  pub place : ℕ
+  pub stands : EntryStandsAt usable last shown node entry place
+
+-- the payload of a cell of the page that the way comes to is broken
+pub record BreaksEntry (usable last : ℕ) (shown : Shown) (level below page : ℕ) : Type 0 where
+  pub node : Node
+  pub shows : ShowsNode false shown level below node
+  pub cell : BreaksCell usable last shown node below page
+
+-- How a look-up ended.
+abbrev pub EndsSearch : (usable last : ℕ) → Shown → (root : ℕ) → List Value → (way : List ℕ) → (below : ℕ) → Result Bool FetchFault → Type 0
+EndsSearch usable last shown root entry way below (Ok true) = HasEntry usable last shown (length way) below entry
+EndsSearch usable last shown root entry way below (Ok false) = LacksEntry usable last shown (length way) below entry
+EndsSearch usable last shown root entry way below (Err fault.Disk) = Unit {0}
+EndsSearch usable last shown root entry way below (Err (fault.Corrupt page)) =
+    ((after : List ℕ) × BreaksWay false last shown (NamesEntryChild usable last shown entry) root way below after page)
+    ⊎ BreaksEntry usable last shown (length way) below page
+EndsSearch usable last shown root entry way below (Err (fault.Size pages)) = ⊥
+EndsSearch usable last shown root entry way below (Err fault.Memory) = Unit {0}
+
+-- An entry was looked up: the pages that were read are of the way, with where it comes to, and of chains of their cells. Over each world that is
+-- still told it is the way towards the entry, and ended so.
+pub record HasSearched {P : Type 0} (pages : Ghosts P) (old : P) (root : ℕ) (entry : List Value) (result : Result Bool FetchFault) (new : P) : Type 0 where
+  pub way : List ℕ
+  pub below : ℕ
+  pub list : List ℕ
+  pub read : pages.reads new ≡ all_read (pages.has old) (pages.reads old) list
+  pub leads : (world : View) → pages.tells new world
+      → IsWay (GoesOn (pages.last_page old) (NamesEntryChild (pages.usable old) (pages.last_page old) (shown_over pages old world) entry)) 0 root way below
+  pub visits : (world : View) → pages.tells new world
+      → Each (λ (page : ℕ). IsOneOf (way ++ below ∷ []) page ⊎ IsChainPage (pages.usable old) (pages.last_page old) (shown_over pages old world) (way ++ below ∷ []) page) list
+  pub ends : (world : View) → pages.tells new world → EndsSearch (pages.usable old) (pages.last_page old) (shown_over pages old world) root entry way below result
   pub cause : IfErr result (IsCause (pages.faults old) (pages.faults new))

@@ -4,14 +4,91 @@ ghost use Rattle.page_face.specs.Pages.{ReadsAtMost};
 ghost use Rattle.node_spec.specs.Cells.{NodeCell};
 ghost use Rattle.node_spec.specs.Nodes.{Node, cell_at};
 ghost use Rattle.page_form.specs.Reading.{IsReadPage};
-ghost use Rattle.tree_read.specs.Entries.{HasSought, HasCompared};
+ghost use Rattle.tree_read.specs.Entries.{HasSought, HasCompared, HasSearched};
 
+use crate::node::{is_outside, read_node, usable_of};
+use crate::place::child_before;
 use crate::row::{local_of, row_of};
+use crate::way::page_buffer;
 use page_face::{FetchFault, Pages};
-use page_form::{Page, read_cell};
+use page_form::{Page, is_leaf, read_cell};
 use std::alloc::Global;
 use std::cmp::Ordering;
 use value_form::{Row, order_rows};
+
+// Looks an entry of an index up, said of the pages alone.
+pub(crate) fn search<P: Pages>(
+    alloc: Global,
+    pages: &mut P,
+    root: u32,
+    entry: &Row,
+) -> Result<bool, FetchFault>
+    requires ready { P.ready pages.old }
+    ensures searched { HasSearched P.PagesTells pages.old root entry.now result pages.new }
+    ensures reading { ReadsAtMost P.PagesTells pages.old pages.new }
+{
+    if root < 1 || root > pages.last() {
+        return Err(FetchFault::Corrupt { page: root });
+    }
+    let mut buf = match page_buffer(alloc, pages.page_size()) {
+        Ok(buf) => buf,
+        Err(why) => return Err(why),
+    };
+    let mut room = match page_buffer(alloc, pages.page_size()) {
+        Ok(room) => room,
+        Err(why) => return Err(why),
+    };
+    search_with(
+        alloc,
+        pages,
+        root,
+        entry,
+        buf.as_mut_slice(),
+        room.as_mut_slice(),
+    )
+}
+
+// The same with a buffer of one page for the pages of the way and one for those of chains, and a root in range.
+fn search_with<P: Pages>(
+    alloc: Global,
+    pages: &mut P,
+    root: u32,
+    entry: &Row,
+    buf: &mut [u8],
+    room: &mut [u8],
+) -> Result<bool, FetchFault>
+    requires ready { P.ready pages.old }
+    requires root { (1 ≤ root) × (root ≤ P.last_page pages.old) }
+    requires buf { length buf.old ≡ P.page_size pages.old }
+    requires room { length room.old ≡ P.page_size pages.old }
+    ensures searched { HasSearched P.PagesTells pages.old root entry.now result pages.new }
+    ensures reading { ReadsAtMost P.PagesTells pages.old pages.new }
+{
+    let usable = usable_of(pages);
+    let last = pages.last();
+    let mut page = root;
+    let mut level = 0;
+    'levels: loop {
+        let node = match read_node(alloc, pages, false, page, level, buf) {
+            Ok(node) => node,
+            Err(why) => return Err(why),
+        };
+        let place = match seek(alloc, pages, page, &node, buf, entry, room) {
+            Ok(Spot::At) => return Ok(true),
+            Ok(Spot::Before(place)) => place,
+            Err(why) => return Err(why),
+        };
+        if is_leaf(node.kind) {
+            return Ok(false);
+        }
+        let child = child_before(&node, buf, usable, place);
+        if is_outside(child, last) {
+            return Err(FetchFault::Corrupt { page });
+        }
+        page = child;
+        level += 1;
+    }
+}
 
 // Where an entry stands among the cells of a page.
 #[derive(Clone, Copy)]

@@ -3,7 +3,7 @@ ghost use Rattle.std.specs.Prelude.{◌≡◌, MatchOption};
 ghost use Rattle.node_spec.specs.Cells.{NodeCell};
 ghost use Rattle.node_spec.specs.Nodes.{Node};
 ghost use Rattle.page_form.specs.Reading.{IsReadPage, TellsCell};
-ghost use Rattle.tree_read.specs.Ways.{StandsAt, IsNext, IsAimed, HasRowid, LacksRowid};
+ghost use Rattle.tree_read.specs.Ways.{StandsAt, child_at, IsNext, IsAimed, HasRowid, LacksRowid};
 ghost use Rattle.tree_read.specs.Looking.{IsLastRowid};
 
 use page_form::{Cell, Page, read_cell};
@@ -51,7 +51,14 @@ fn child_of(page: &Page, bytes: &[u8], u: usize, rowid: i64) -> u32
     requires { (node : Node) × IsReadPage u bytes.now page.now node }
     ensures { (node : Node) → IsReadPage u bytes.now page.now node → IsNext node rowid result }
 {
-    let place = place_of(page, bytes, u, rowid);
+    child_before(page, bytes, u, place_of(page, bytes, u, rowid))
+}
+
+// The child before the cell of a place, past all cells the right one.
+pub(crate) fn child_before(page: &Page, bytes: &[u8], u: usize, place: usize) -> u32
+    requires { (node : Node) × IsReadPage u bytes.now page.now node }
+    ensures { (node : Node) → IsReadPage u bytes.now page.now node → result ≡ child_at node.cells node.right place }
+{
     if place < page.cells.len() {
         read_cell(page, bytes, u, place).left
     } else {
