@@ -24,11 +24,11 @@ pub weaker : {X : Type 0} (P Q : X → Type 0) (xs : List X) → ((x : X) → P 
 weaker P Q [] on all = tt
 weaker P Q (x ∷ xs) on all = (on x all.0, weaker P Q xs on all.1)
 
-each_first : {X : Type 0} (P : X → Type 0) (a b : List X) → Each P (a ++ b) → Each P a
+pub each_first : {X : Type 0} (P : X → Type 0) (a b : List X) → Each P (a ++ b) → Each P a
 each_first P [] b all = tt
 each_first P (x ∷ xs) b all = (all.0, each_first P xs b all.1)
 
-each_last : {X : Type 0} (P : X → Type 0) (a b : List X) → Each P (a ++ b) → Each P b
+pub each_last : {X : Type 0} (P : X → Type 0) (a b : List X) → Each P (a ++ b) → Each P b
 each_last P [] b all = all
 each_last P (x ∷ xs) b all = each_last P xs b all.1
 

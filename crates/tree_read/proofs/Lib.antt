@@ -6,3 +6,4 @@ pub mod Descents
 pub mod Trees
 pub mod Seeking
 pub mod Searching
+pub mod IndexTrees

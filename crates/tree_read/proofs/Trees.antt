@@ -48,7 +48,7 @@ at_root usable last shown Of height root own items of tree = record {
 }
 
 -- a page shows one node
-one_node : (shown : Shown) (page : ℕ) (node other : Node) → shown.node page ≡ Some node → shown.node page ≡ Some other → node ≡ other
+pub one_node : (shown : Shown) (page : ℕ) (node other : Node) → shown.node page ≡ Some node → shown.node page ≡ Some other → node ≡ other
 one_node shown page node other is is_other = cc
 
 -- a child of an interior node, of which the same holds

@@ -154,3 +154,38 @@ pub record HasSearched {P : Type 0} (pages : Ghosts P) (old : P) (root : ℕ) (e
       → Each (λ (page : ℕ). IsOneOf (way ++ below ∷ []) page ⊎ IsChainPage (pages.usable old) (pages.last_page old) (shown_over pages old world) (way ++ below ∷ []) page) list
   pub ends : (world : View) → pages.tells new world → EndsSearch (pages.usable old) (pages.last_page old) (shown_over pages old world) root entry way below result
   pub cause : IfErr result (IsCause (pages.faults old) (pages.faults new))
+
+-- Said of trees.
+
+-- The items stand in the order of rows: what records the earlier begin with are less than those of the later.
+abbrev pub RowsRise : List Item → Type 0
+RowsRise [] = Unit {0}
+RowsRise (item ∷ items) =
+    Each (λ (other : Item). (row next : List Value) → IsRecord item.bytes row → IsRecord other.bytes next → row_order row next ≡ Less) items × RowsRise items
+
+-- an item is one of these
+pub record IsAmong (items : List Item) (item : Item) : Type 0 where
+  pub front : List Item
+  pub back : List Item
+  pub items_are : items ≡ front ++ item ∷ back
+
+-- the payload of one of the items begins with the entry's record; or none does, if the items stand in order
+abbrev pub AnswersEntry : List Item → List Value → Bool → Type 0
+AnswersEntry items entry true = (item : Item) × (IsAmong items item × IsRecord item.bytes entry)
+AnswersEntry items entry false = RowsRise items → Each (λ (item : Item). IsRecord item.bytes entry → ⊥) items
+
+-- Over each world in which the root has an index's tree the answer is that of its items.
+abbrev pub FindsEntry : {P : Type 0} → Ghosts P → P → (root : ℕ) → List Value → Bool → P → Type 0
+FindsEntry pages old root entry found new = (world : View) → pages.tells new world → (bound height : ℕ) (own : List ℕ) (items : List Item)
+    → IsTree false (pages.usable old) bound (shown_over pages old world) height root own items → AnswersEntry items entry found
+
+-- A fault over such a tree: from outside, or one of the items is no row.
+abbrev pub IsOfEntry : (usable last : ℕ) → Shown → (before after : ℕ) → List Item → FetchFault → Type 0
+IsOfEntry usable last shown before after items fault.Disk = Rose before after
+IsOfEntry usable last shown before after items (fault.Corrupt page) = (item : Item) × (IsAmong items item × IsNoRow usable last shown item)
+IsOfEntry usable last shown before after items (fault.Size pages) = ⊥
+IsOfEntry usable last shown before after items fault.Memory = Unit {0}
+
+abbrev pub FailsEntry : {P : Type 0} → Ghosts P → P → (root : ℕ) → FetchFault → P → Type 0
+FailsEntry pages old root why new = (items : List Item) (there : ThereIsTree false pages old root items new)
+    → IsOfEntry (pages.usable old) (pages.last_page old) (shown_over pages old there.world) (pages.faults old) (pages.faults new) items why

@@ -1,10 +1,10 @@
 // An entry of an index, looked up.
-ghost use Rattle.std.specs.Prelude.{◌≡◌, ℕ, ◌<◌, ◌≤◌, length, vec_len};
+ghost use Rattle.std.specs.Prelude.{◌≡◌, ℕ, ◌<◌, ◌≤◌, length, IfOk, IfErr};
 ghost use Rattle.page_face.specs.Pages.{ReadsAtMost};
 ghost use Rattle.node_spec.specs.Cells.{NodeCell};
 ghost use Rattle.node_spec.specs.Nodes.{Node, cell_at};
 ghost use Rattle.page_form.specs.Reading.{IsReadPage};
-ghost use Rattle.tree_read.specs.Entries.{HasSought, HasCompared, HasSearched};
+ghost use Rattle.tree_read.specs.Entries.{HasSought, HasCompared, HasSearched, FindsEntry, FailsEntry};
 
 use crate::node::{is_outside, read_node, usable_of};
 use crate::place::child_before;
@@ -16,8 +16,29 @@ use std::alloc::Global;
 use std::cmp::Ordering;
 use value_form::{Row, order_rows};
 
-// Looks an entry of an index up, said of the pages alone.
-pub(crate) fn search<P: Pages>(
+/// Whether the index's tree at page `root` has an entry, whose entries stand in the order of [`order_rows`].
+///
+/// `Corrupt` names `root` where that is out of range; the page that was fetched last where that is no page's text, stands where it may
+/// not (by its kind, more than 40 levels below the root, or without a cell), or names a page out of range; and the page of a cell whose
+/// payload is no record without a float, or has 2^32 bytes or more. `Disk` and `Memory` come from outside. One page is fetched for
+/// each level, and those of the chains of the entries that are compared, about as many as halving takes. Two buffers of a page are made.
+pub fn find_entry<P: Pages>(
+    alloc: Global,
+    pages: &mut P,
+    root: u32,
+    entry: &Row,
+) -> Result<bool, FetchFault>
+    requires ready { P.ready pages.old }
+    ensures found { IfOk result (λ found. FindsEntry P.PagesTells pages.old root entry.now found pages.new) }
+    ensures sound { IfErr result (λ why. FailsEntry P.PagesTells pages.old root why pages.new) }
+    ensures searched { HasSearched P.PagesTells pages.old root entry.now result pages.new }
+    ensures reading { ReadsAtMost P.PagesTells pages.old pages.new }
+{
+    search(alloc, pages, root, entry)
+}
+
+// The same, said of the pages alone.
+fn search<P: Pages>(
     alloc: Global,
     pages: &mut P,
     root: u32,

@@ -12,5 +12,6 @@ mod place;
 mod row;
 mod way;
 
+pub use entry::find_entry;
 pub use find::find_row;
 pub use last::last_row;
