@@ -1,12 +1,11 @@
 -- The way down towards an entry, as far as it was gone, and how it ends.
-use Rattle.std.proofs.Common.{◌≡◌, ℕ, ◌+◌, ◌<◌, ◌≤◌, true, false, Bool, List, [], ◌∷◌, ◌++◌, length, Result, Ok, Err, Some, inl, inr, refl, sym, subst, ap, ◌∙◌, arith}
+use Rattle.std.proofs.Common.{◌≡◌, ℕ, ◌<◌, ◌≤◌, true, false, List, [], ◌∷◌, ◌++◌, length, Result, Ok, Err, inl, inr, refl, sym, subst, ap, ◌∙◌, arith}
 use Rattle.std.specs.Prelude.{◌⊎◌, IfErr}
 use Rattle.page_spec.specs.View.{View}
 use Rattle.engine_spec.specs.declared.commits.FetchFault.{FetchFault}
 use Rattle.engine_spec.specs.declared.commits.FetchFault.TheVariants as fault
 use Rattle.page_face.specs.declared.pages_tells.PagesTells.{Ghosts}
 use Rattle.page_face.specs.Pages.{ReadsAtMost, pages_read}
-use Rattle.page_face.proofs.PageLaws.{reading_join}
 use Rattle.node_spec.specs.Kinds.{is_leaf}
 use Rattle.node_spec.specs.Nodes.{Node}
 use Rattle.page_form.specs.declared.page.Page.{Page}
@@ -21,7 +20,7 @@ use Rattle.tree_read.specs.declared.entry.Spot.TheVariants.{At, Before}
 use Rattle.tree_read.specs.Ways.{ShowsNode, GoesOn, IsWay, BreaksWay, child_at}
 use Rattle.tree_read.specs.Payloads.{IsCause}
 use Rattle.tree_read.specs.Looking.{BarsNode, HasNode}
-use Rattle.tree_read.specs.Entries.{EntryStandsAt, IsOfCells, EndsSeek, HasSought, NamesEntryChild, IsOneOf, IsChainPage, HasEntry, LacksEntry, BreaksEntry, EndsSearch, HasSearched}
+use Rattle.tree_read.specs.Entries.{IsOfCells, EndsSeek, HasSought, NamesEntryChild, IsOneOf, IsChainPage, EndsSearch, HasSearched}
 use Rattle.tree_read.proofs.Around.{weaker}
 use Rattle.tree_read.proofs.Descents.{same_shown, read_both, cause_before, rose_before, way_more}
 
@@ -235,10 +234,13 @@ no_index_node pages old now then root entry way page fault.Disk reading more so_
     unseen pages old now then root entry way page fault.Disk reading more so_far (λ world told. tt) (rose_before _ _ _ reading.edits.faults bars) which
 no_index_node pages old now then root entry way page (fault.Corrupt named) reading more so_far bars which =
     unseen pages old now then root entry way page (fault.Corrupt named) reading more so_far
-    (λ world told. inl (page ∷ [], BreaksWay.ShowsNone refl bars.0 (λ node shows. bars.2 world told node (record {
-      holds = ap (λ (s : Shown). s.node page) (same_shown pages old now reading world (more.edits.narrows world told)) ∙ shows.holds;
-      may = shows.may;
-    })))) tt (inr bars.1)
+    (λ world told. inl (
+      page ∷ [],
+      BreaksWay.ShowsNone refl bars.0 (λ node shows. bars.2 world told node (record {
+        holds = ap (λ (s : Shown). s.node page) (same_shown pages old now reading world (more.edits.narrows world told)) ∙ shows.holds;
+        may = shows.may;
+      })),
+    )) tt (inr bars.1)
 no_index_node pages old now then root entry way page (fault.Size count) reading more so_far bars which = absurd bars
 no_index_node pages old now then root entry way page fault.Memory reading more so_far bars which =
     unseen pages old now then root entry way page fault.Memory reading more so_far (λ world told. tt) tt which

@@ -1,5 +1,5 @@
 -- An entry among the cells of one page.
-use Rattle.std.proofs.Common.{◌≡◌, ℕ, suc, ◌+◌, ◌<◌, ◌≤◌, List, [], ◌∷◌, ◌++◌, length, Result, Ok, Err, refl, sym, subst, ap, ◌∙◌, arith, append_assoc, append-nil}
+use Rattle.std.proofs.Common.{◌≡◌, ℕ, suc, ◌+◌, ◌<◌, ◌≤◌, List, [], ◌∷◌, ◌++◌, length, Result, Ok, Err, refl, sym, subst, arith, append_assoc}
 use Rattle.std.specs.Prelude.{IfErr}
 use Rattle.std.specs.declared.cmp.Ordering.{Ordering}
 use Rattle.std.specs.declared.cmp.Ordering.TheVariants.{Less, Equal, Greater}
@@ -16,10 +16,9 @@ use Rattle.tree_spec.proofs.Lists.{each-append}
 use Rattle.value_form.specs.declared.value.Value.{Value}
 use Rattle.value_form.specs.Order.{row_order}
 use Rattle.overflow.specs.Following.{shown_over, all_read}
-use Rattle.tree_read.specs.declared.entry.Spot.{Spot}
 use Rattle.tree_read.specs.declared.entry.Spot.TheVariants.{At, Before}
-use Rattle.tree_read.specs.Payloads.{AreOfChain, BreaksPayload, EndsWithRow, IsCause, HasReadRow}
-use Rattle.tree_read.specs.Entries.{Compares, EntryStandsAt, IsOfCells, BreaksCell, EndsSeek, HasSought, EndsCompare, HasCompared}
+use Rattle.tree_read.specs.Payloads.{AreOfChain, BreaksPayload, IsCause, HasReadRow}
+use Rattle.tree_read.specs.Entries.{Compares, IsOfCells, EndsSeek, HasSought, EndsCompare, HasCompared}
 use Rattle.tree_read.proofs.Payloads.{of_chain}
 use Rattle.tree_read.proofs.Descents.{same_shown, read_both, cause_before}
 

@@ -1,5 +1,5 @@
 -- What looking an entry of an index up says of pages.
-use Rattle.std.specs.Prelude.{◌≡◌, ◌⊎◌, ℕ, suc, ◌^◌, ◌<◌, ◌≤◌, Bool, true, false, List, [], ◌∷◌, ◌++◌, length, Some, Result, Ok, Err, IfErr}
+use Rattle.std.specs.Prelude.{◌≡◌, ◌⊎◌, ℕ, suc, ◌<◌, ◌≤◌, Bool, true, false, List, [], ◌∷◌, ◌++◌, length, Some, Result, Ok, Err, IfErr}
 use Rattle.std.specs.declared.cmp.Ordering.{Ordering}
 use Rattle.std.specs.declared.cmp.Ordering.TheVariants.{Less, Equal, Greater}
 use Rattle.disk_face.specs.Faults.{Rose}
@@ -12,7 +12,7 @@ use Rattle.node_spec.specs.Cells.{NodeCell}
 use Rattle.node_spec.specs.Nodes.{Node, cell_at}
 use Rattle.tree_spec.specs.Shown.{Shown}
 use Rattle.tree_spec.specs.Layout.{Each, Item}
-use Rattle.tree_spec.specs.Trees.{IsTree, IsItem}
+use Rattle.tree_spec.specs.Trees.{IsTree}
 use Rattle.value_form.specs.declared.value.Value.{Value}
 use Rattle.value_form.specs.Order.{row_order}
 use Rattle.value_form.specs.Record.{IsRecord}

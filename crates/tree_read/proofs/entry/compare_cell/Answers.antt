@@ -1,4 +1,4 @@
-use Rattle.std.proofs.Common.{◌∙◌, refl, sym}
+use Rattle.std.proofs.Common.{refl}
 use Rattle.tree_read.proofs.Descents.{page_again, cell_again}
 use Rattle.tree_read.proofs.entry.compare_cell.Goals as goal
 

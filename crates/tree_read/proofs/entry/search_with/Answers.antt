@@ -1,10 +1,7 @@
-use Rattle.std.proofs.Common.{◌≡◌, ℕ, ◌+◌, ◌<◌, ◌≤◌, ◌==◌, true, false, ◌∷◌, [], ◌++◌, List, Ok, Err, refl, sym, ap, subst, ◌∙◌, arith, length, length-append}
+use Rattle.std.proofs.Common.{ℕ, ◌<◌, ◌≤◌, ◌==◌, false, ◌∷◌, [], ◌++◌, Ok, Err, refl, sym, ap, subst, ◌∙◌, arith, length, length-append}
 use Rattle.std.specs.Prelude.{◌⊎◌}
-use Rattle.engine_spec.specs.declared.commits.FetchFault.TheVariants as fault
-use Rattle.page_face.specs.Pages.{ReadsAtMost}
 use Rattle.page_face.proofs.PageLaws.{reading_join, reading_same}
 use Rattle.node_spec.specs.Kinds.{is_leaf}
-use Rattle.node_spec.specs.Nodes.{Node}
 use Rattle.page_form.specs.Reading.{IsReadPage}
 use Rattle.tree_read.specs.declared.entry.Spot.{Spot}
 use Rattle.tree_read.specs.declared.entry.Spot.TheVariants.{At, Before}

@@ -1,8 +1,8 @@
-use Rattle.std.proofs.Common.{◌≡◌, ℕ, ◌+◌, ◌-◌, ◌/◌, ◌<◌, Ok, Err, ◌∙◌, sym, subst, arith, length}
+use Rattle.std.proofs.Common.{◌+◌, ◌-◌, ◌/◌, ◌<◌, Ok, Err, ◌∙◌, subst, arith, length}
 use Rattle.std.specs.declared.cmp.Ordering.{Ordering}
 use Rattle.std.specs.declared.cmp.Ordering.TheVariants.{Less, Equal, Greater}
 use Rattle.page_face.proofs.PageLaws.{reading_join, reading_same}
-use Rattle.node_spec.specs.Nodes.{Node, cell_at}
+use Rattle.node_spec.specs.Nodes.{cell_at}
 use Rattle.tree_read.specs.Entries.{HasCompared}
 use Rattle.tree_read.proofs.Descents.{page_again}
 use Rattle.tree_read.proofs.Seeking.{none_sought, one_compared, goes_up, goes_down, is_there, seek_fails, is_between}

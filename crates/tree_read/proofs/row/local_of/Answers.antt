@@ -1,4 +1,4 @@
-use Rattle.std.proofs.Common.{◌≡◌, ◌≤◌, ◌++◌, ◌∙◌, List, ℕ, [], ap, arith, length}
+use Rattle.std.proofs.Common.{◌≡◌, ◌++◌, ◌∙◌, List, ℕ, ap, arith, length}
 use Rattle.tree_read.proofs.Payloads.{local_small}
 use Rattle.tree_read.proofs.row.local_of.Goals as goal
 

@@ -1,4 +1,4 @@
-use Rattle.std.proofs.Common.{◌≡◌, ℕ, ◌∙◌, ◌++◌, List, length, ap, arith, inl, inr}
+use Rattle.std.proofs.Common.{◌≡◌, ℕ, List, length, ap, arith, inl, inr}
 use Rattle.tree_read.proofs.Payloads.{too_large, begins_outside, all_followed, part_followed}
 use Rattle.tree_read.proofs.row.read_rest.Goals as goal
 
