@@ -62,7 +62,7 @@ impl Pages for Laid {
 
     fn fetch(&mut self, page: u32, buf: &mut [u8]) -> Result<(), FetchFault> {
         self.fetched = self.fetched.saturating_add(1);
-        if page < 2 || page > 7 {
+        if page < 2 || page > 15 {
             buf.fill(0);
         } else {
             buf.copy_from_slice(PAGES[page as usize - 2]);
