@@ -1,7 +1,8 @@
-//! Trees read: a row found by its rowid.
+//! Trees read: a table's row found by its rowid, the greatest rowid, and whether an index has an entry.
 //!
-//! A look-up goes down from the root. On each page it looks for the rowid's place among the cells, which is that of the first cell
-//! with no smaller rowid, and goes on at the child there. It fetches one page a level, and the pages of the row's chain.
+//! A look-up goes down from the root. On each page it looks for its place among the cells by halving, and goes on at the child there: that of
+//! the first cell with no smaller rowid, or with a greater entry. It fetches one page a level, and the pages of the chains of the
+//! payloads that it reads. Each page that is passed is looked at as a whole, stands where it may, and names a child in range.
 #![tactic(auto)]
 
 mod entry;
