@@ -483,14 +483,14 @@ entry_none usable last most shown entry items level page total under lacks rise 
         absurd (never_inner (is_leaf lacks.node.kind) lacks.leaf (ap (λ (n : Node). is_leaf n.kind) (sym same) ∙ holds.content.inner))
 
 -- What was found, over a tree.
-entry_answers : (usable last most : ℕ) (shown : Shown) (entry : List Value) (items : List Item) (way : List ℕ) (below total root : ℕ) (found : Bool)
-    → UnderIndex usable last shown entry items (length way) below total → EndsSearch usable most shown root entry way below (Ok found) → AnswersEntry items entry found
-entry_answers usable last most shown entry items way below total root true under ends =
+entry_answers : (usable last most : ℕ) (shown : Shown) (entry : List Value) (items : List Item) (way : List ℕ) (below total root : ℕ) (list : List ℕ) (found : Bool)
+    → UnderIndex usable last shown entry items (length way) below total → EndsSearch usable most shown root entry way below list (Ok found) → AnswersEntry items entry found
+entry_answers usable last most shown entry items way below total root list true under ends =
     let c = ends.compares in
     let item = entry_item usable last shown entry items (length way) below total under ends.node ends.shows.holds ends.k c.inside in
     let same : c.row ≡ entry = row_linear.apart c.row entry (sym c.order_is) in
     (item.0, (item.1.0, subst (IsRecord item.0.bytes) same (record_of usable last most shown ends.node ends.k entry Equal item.0 c item.1.1)))
-entry_answers usable last most shown entry items way below total root false under ends =
+entry_answers usable last most shown entry items way below total root list false under ends =
     entry_none usable last most shown entry items (length way) below total under ends
 
 -- an item whose payload is broken is no row
@@ -519,7 +519,7 @@ finds_entry pages old root entry found new searched = λ world told bound height
     let usable = pages.usable old in
     let most = pages.last_page old in
     let shown = shown_over pages old world in
-    entry_answers usable bound most shown entry items searched.way searched.below height root found
+    entry_answers usable bound most shown entry items searched.way searched.below height root searched.list found
     (entry_end usable bound most shown entry items 0 root searched.way searched.below height (length searched.way) (omega arith) (searched.leads world told)
     (index_root usable bound shown entry height root own items tree)) (searched.ends world told)
 
@@ -533,10 +533,13 @@ fails_entry pages old root entry (fault.Corrupt page) new searched = λ items th
     let under = entry_end usable last last shown entry items 0 root searched.way searched.below there.height (length searched.way) (omega arith)
     (searched.leads there.world there.told) (index_root usable last shown entry there.height root there.own items there.tree) in
     elim (searched.ends there.world there.told) [
-      | inl breaks ↦ absurd (index_breaks usable last shown entry items root there.height searched.way searched.below breaks.0 page there.least there.most there.low under breaks.1)
-      | inr row ↦ (
-          let item = entry_item usable last shown entry items (length searched.way) searched.below there.height under row.node row.shows.holds row.cell.k row.cell.inside in
-          (item.0, (item.1.0, no_row_in usable last shown (cell_at row.node row.cell.k) item.0 searched.below row.cell.chain page item.1.1 row.cell.breaks)))
+      | inl breaks ↦ absurd (index_breaks usable last shown entry items root there.height searched.way searched.below [] page there.least there.most there.low under breaks.1)
+      | inr read ↦ elim read.1 [
+        | inl breaks ↦ absurd (index_breaks usable last shown entry items root there.height searched.way searched.below (searched.below ∷ []) page there.least there.most there.low under breaks)
+        | inr row ↦ (
+            let item = entry_item usable last shown entry items (length searched.way) searched.below there.height under row.node row.shows.holds row.cell.k row.cell.inside in
+            (item.0, (item.1.0, no_row_in usable last shown (cell_at row.node row.cell.k) item.0 searched.below row.cell.chain page item.1.1 row.cell.breaks)))
+      ]
     ]
 fails_entry pages old root entry (fault.Size count) new searched = λ items there. searched.cause
 fails_entry pages old root entry fault.Memory new searched = λ items there. tt

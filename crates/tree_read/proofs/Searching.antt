@@ -22,6 +22,7 @@ use Rattle.tree_read.specs.Payloads.{IsCause}
 use Rattle.tree_read.specs.Looking.{BarsNode, HasNode}
 use Rattle.tree_read.specs.Entries.{IsOfCells, EndsSeek, HasSought, NamesEntryChild, IsOneOf, IsChainPage, EndsSearch, HasSearched}
 use Rattle.tree_read.proofs.Around.{weaker}
+use Rattle.tree_read.proofs.Seeking.{one_second}
 use Rattle.tree_read.proofs.Descents.{same_shown, read_both, cause_before, rose_before, way_more}
 
 -- a page that is read on a way over these pages
@@ -61,12 +62,15 @@ nothing_searched pages old root entry = record { list = []; read = refl; leads =
 -- A page of the way was read, and the entry sought in it.
 pub record AtPage {P : Type 0} (pages : Ghosts P) (old then : P) (root : ℕ) (entry : List Value) (way : List ℕ) (page : ℕ) (node : Node) (result : Result Spot FetchFault) : Type 0 where
   pub list : List ℕ
+  pub sub : List ℕ
+  pub within : (number : ℕ) → IsOneOf sub number → IsOneOf list number
+  pub here : IsOneOf list page
   pub read : pages.reads then ≡ all_read (pages.has old) (pages.reads old) list
   pub leads : (world : View) → pages.tells then world
       → IsWay (GoesOn (pages.last_page old) (NamesEntryChild (pages.usable old) (pages.last_page old) (shown_over pages old world) entry)) 0 root way page
   pub visits : (world : View) → pages.tells then world → Each (IsVisited (pages.usable old) (pages.last_page old) (shown_over pages old world) (way ++ page ∷ [])) list
   pub shows : (world : View) → pages.tells then world → ShowsNode false (shown_over pages old world) (length way) page node
-  pub ends : (world : View) → pages.tells then world → EndsSeek (pages.usable old) (pages.last_page old) (shown_over pages old world) node page entry result
+  pub ends : (world : View) → pages.tells then world → EndsSeek (pages.usable old) (pages.last_page old) (shown_over pages old world) node page entry sub result
   pub cause : IfErr result (IsCause (pages.faults old) (pages.faults then))
 
 pub at_page : {P : Type 0} (pages : Ghosts P) (old now mid then : P) (root : ℕ) (entry : List Value) (way : List ℕ) (page : ℕ) (bytes : List ℕ) (told : Page) (result : Result Spot FetchFault)
@@ -82,6 +86,9 @@ at_page pages old now mid then root entry way page bytes told result first secon
     ∙ has.shown world (third.edits.narrows world there) in
     record {
       list = (so_far.list ++ page ∷ []) ++ sought.list;
+      sub = sought.list;
+      within = λ number one. one_second (so_far.list ++ page ∷ []) sought.list number one;
+      here = one_first (so_far.list ++ page ∷ []) sought.list page (one_last so_far.list page);
       read = read_both (pages.has old) (pages.has mid) (pages.reads old) (pages.reads mid) (pages.reads then) (so_far.list ++ page ∷ []) sought.list both.has
           (read_step (pages.has old) (pages.has now) (pages.reads old) (pages.reads now) (pages.reads mid) so_far.list page (first.has page) so_far.read has.read) sought.read;
       leads = λ world there. so_far.leads world (second.edits.narrows world (third.edits.narrows world there));
@@ -100,9 +107,9 @@ at_page pages old now mid then root entry way page bytes told result first secon
           (each-append (IsVisited usable last shown (way ++ page ∷ [])) so_far.list (page ∷ []) before (inl (one_last way page), tt)) chains;
       shows = λ world there. record { holds = shows world there; may = has.may };
       ends = λ world there.
-          subst (λ (u : ℕ). EndsSeek u last (shown_over pages old world) has.node page entry result) both.edits.usable
-          (subst (λ (n : ℕ). EndsSeek (pages.usable mid) n (shown_over pages old world) has.node page entry result) both.last
-          (subst (λ (s : Shown). EndsSeek (pages.usable mid) (pages.last_page mid) s has.node page entry result)
+          subst (λ (u : ℕ). EndsSeek u last (shown_over pages old world) has.node page entry sought.list result) both.edits.usable
+          (subst (λ (n : ℕ). EndsSeek (pages.usable mid) n (shown_over pages old world) has.node page entry sought.list result) both.last
+          (subst (λ (s : Shown). EndsSeek (pages.usable mid) (pages.last_page mid) s has.node page entry sought.list result)
           (same_shown pages old mid both world (third.edits.narrows world there)) (sought.ends world there)));
       cause = if_cause result sought.cause;
     }
@@ -138,12 +145,16 @@ is_missing pages old then root entry way page node place leaf at = record {
   cause = tt;
 }
 
-search_end : (usable last : ℕ) (shown : Shown) (root : ℕ) (entry : List Value) (way : List ℕ) (page : ℕ) (node : Node) (why : FetchFault) → ShowsNode false shown (length way) page node
-    → EndsSeek usable last shown node page entry (Err why) → EndsSearch usable last shown root entry way page (Err why)
-search_end usable last shown root entry way page node fault.Disk shows ends = tt
-search_end usable last shown root entry way page node (fault.Corrupt named) shows ends = inr (record { node = node; shows = shows; cell = ends })
-search_end usable last shown root entry way page node (fault.Size count) shows ends = ends
-search_end usable last shown root entry way page node fault.Memory shows ends = tt
+search_end : (usable last : ℕ) (shown : Shown) (root : ℕ) (entry : List Value) (way : List ℕ) (page : ℕ) (node : Node) (sub list : List ℕ) (why : FetchFault)
+    → ShowsNode false shown (length way) page node → ((number : ℕ) → IsOneOf sub number → IsOneOf list number) → IsOneOf list page
+    → EndsSeek usable last shown node page entry sub (Err why) → EndsSearch usable last shown root entry way page list (Err why)
+search_end usable last shown root entry way page node sub list fault.Disk shows within here ends = tt
+search_end usable last shown root entry way page node sub list (fault.Corrupt named) shows within here ends = inr (
+  elim ends.1 [ inl own ↦ subst (IsOneOf list) (sym own) here | inr one ↦ within named one ],
+  inr (record { node = node; shows = shows; cell = ends.0 }),
+)
+search_end usable last shown root entry way page node sub list (fault.Size count) shows within here ends = ends
+search_end usable last shown root entry way page node sub list fault.Memory shows within here ends = tt
 
 pub is_broken : {P : Type 0} (pages : Ghosts P) (old then : P) (root : ℕ) (entry : List Value) (way : List ℕ) (page : ℕ) (node : Node) (why : FetchFault)
     → AtPage pages old then root entry way page node (Err why) → HasSearched pages old root entry (Err why) then
@@ -154,7 +165,7 @@ is_broken pages old then root entry way page node why at = record {
   read = at.read;
   leads = at.leads;
   visits = at.visits;
-  ends = λ world told. search_end (pages.usable old) (pages.last_page old) (shown_over pages old world) root entry way page node why (at.shows world told) (at.ends world told);
+  ends = λ world told. search_end (pages.usable old) (pages.last_page old) (shown_over pages old world) root entry way page node at.sub at.list why (at.shows world told) at.within at.here (at.ends world told);
   cause = at.cause;
 }
 
@@ -181,7 +192,7 @@ entry_child_outside pages old then root entry way page node place child inner is
   read = at.read;
   leads = at.leads;
   visits = at.visits;
-  ends = λ world told. inl (page ∷ [], BreaksWay.ChildOutside child refl refl (names_entry_child pages old then root entry way page node place child inner is at world told) outside);
+  ends = λ world told. inr (at.here, inl (BreaksWay.ChildOutside child refl refl (names_entry_child pages old then root entry way page node place child inner is at world told) outside));
   cause = tt;
 }
 
@@ -199,7 +210,7 @@ entry_more pages old then root entry way page node place child inner is low high
 -- a page gave no node
 unseen : {P : Type 0} (pages : Ghosts P) (old now then : P) (root : ℕ) (entry : List Value) (way : List ℕ) (page : ℕ) (why : FetchFault)
     → ReadsAtMost pages old now → ReadsAtMost pages now then → (so_far : EntrySoFar pages old now root entry way page)
-    → ((world : View) → pages.tells then world → EndsSearch (pages.usable old) (pages.last_page old) (shown_over pages old world) root entry way page (Err why))
+    → ((list : List ℕ) (world : View) → pages.tells then world → EndsSearch (pages.usable old) (pages.last_page old) (shown_over pages old world) root entry way page list (Err why))
     → IsCause (pages.faults old) (pages.faults then) why
     → (pages.reads then ≡ pages.reads now) ⊎ (pages.reads then ≡ pages_read pages now page) → HasSearched pages old root entry (Err why) then
 unseen pages old now then root entry way page why reading more so_far ends cause (inl none) = record {
@@ -210,7 +221,7 @@ unseen pages old now then root entry way page why reading more so_far ends cause
   leads = λ world told. so_far.leads world (more.edits.narrows world told);
   visits = λ world told. weaker _ (IsVisited (pages.usable old) (pages.last_page old) (shown_over pages old world) (way ++ page ∷ [])) so_far.list
       (λ p visited. visited_more (pages.usable old) (pages.last_page old) (shown_over pages old world) way (page ∷ []) p visited) (so_far.visits world (more.edits.narrows world told));
-  ends = ends;
+  ends = ends so_far.list;
   cause = cause;
 }
 unseen pages old now then root entry way page why reading more so_far ends cause (inr one) = record {
@@ -223,7 +234,7 @@ unseen pages old now then root entry way page why reading more so_far ends cause
       (weaker _ (IsVisited (pages.usable old) (pages.last_page old) (shown_over pages old world) (way ++ page ∷ [])) so_far.list
       (λ p visited. visited_more (pages.usable old) (pages.last_page old) (shown_over pages old world) way (page ∷ []) p visited) (so_far.visits world (more.edits.narrows world told)))
       (inl (one_last way page), tt);
-  ends = ends;
+  ends = ends (so_far.list ++ page ∷ []);
   cause = cause;
 }
 
@@ -231,19 +242,30 @@ pub no_index_node : {P : Type 0} (pages : Ghosts P) (old now then : P) (root : �
     → ReadsAtMost pages old now → ReadsAtMost pages now then → EntrySoFar pages old now root entry way page → BarsNode pages now false page (length way) then why
     → (pages.reads then ≡ pages.reads now) ⊎ (pages.reads then ≡ pages_read pages now page) → HasSearched pages old root entry (Err why) then
 no_index_node pages old now then root entry way page fault.Disk reading more so_far bars which =
-    unseen pages old now then root entry way page fault.Disk reading more so_far (λ world told. tt) (rose_before _ _ _ reading.edits.faults bars) which
-no_index_node pages old now then root entry way page (fault.Corrupt named) reading more so_far bars which =
-    unseen pages old now then root entry way page (fault.Corrupt named) reading more so_far
-    (λ world told. inl (
-      page ∷ [],
-      BreaksWay.ShowsNone refl bars.0 (λ node shows. bars.2 world told node (record {
-        holds = ap (λ (s : Shown). s.node page) (same_shown pages old now reading world (more.edits.narrows world told)) ∙ shows.holds;
-        may = shows.may;
-      })),
-    )) tt (inr bars.1)
+    unseen pages old now then root entry way page fault.Disk reading more so_far (λ list world told. tt) (rose_before _ _ _ reading.edits.faults bars) which
+no_index_node pages old now then root entry way page (fault.Corrupt named) reading more so_far bars which = record {
+  way = way;
+  below = page;
+  list = so_far.list ++ page ∷ [];
+  read = read_step (pages.has old) (pages.has now) (pages.reads old) (pages.reads now) (pages.reads then) so_far.list page (reading.has page) so_far.read bars.1;
+  leads = λ world told. so_far.leads world (more.edits.narrows world told);
+  visits = λ world told. each-append (IsVisited (pages.usable old) (pages.last_page old) (shown_over pages old world) (way ++ page ∷ [])) so_far.list (page ∷ [])
+      (weaker _ (IsVisited (pages.usable old) (pages.last_page old) (shown_over pages old world) (way ++ page ∷ [])) so_far.list
+      (λ p visited. visited_more (pages.usable old) (pages.last_page old) (shown_over pages old world) way (page ∷ []) p visited) (so_far.visits world (more.edits.narrows world told)))
+      (inl (one_last way page), tt);
+  ends = λ world told. inr (
+    subst (IsOneOf (so_far.list ++ page ∷ [])) (sym bars.0) (one_last so_far.list page),
+    inl (BreaksWay.ShowsNone refl bars.0 (λ node shows.
+        bars.2 world told node (record {
+          holds = ap (λ (s : Shown). s.node page) (same_shown pages old now reading world (more.edits.narrows world told)) ∙ shows.holds;
+          may = shows.may;
+        }))),
+  );
+  cause = tt;
+}
 no_index_node pages old now then root entry way page (fault.Size count) reading more so_far bars which = absurd bars
 no_index_node pages old now then root entry way page fault.Memory reading more so_far bars which =
-    unseen pages old now then root entry way page fault.Memory reading more so_far (λ world told. tt) tt which
+    unseen pages old now then root entry way page fault.Memory reading more so_far (λ list world told. tt) tt which
 
 pub index_outside : {P : Type 0} (pages : Ghosts P) (old : P) (root : ℕ) (entry : List Value) → (root < 1) ⊎ (pages.last_page old < root)
     → HasSearched pages old root entry (Err (fault.Corrupt root)) old
@@ -254,7 +276,7 @@ index_outside pages old root entry outside = record {
   read = refl;
   leads = λ world told. refl;
   visits = λ world told. tt;
-  ends = λ world told. inl ([], BreaksWay.RootOutside refl refl refl outside);
+  ends = λ world told. inl (refl, BreaksWay.RootOutside refl refl refl outside);
   cause = tt;
 }
 

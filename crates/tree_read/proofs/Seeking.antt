@@ -1,6 +1,6 @@
 -- An entry among the cells of one page.
-use Rattle.std.proofs.Common.{◌≡◌, ℕ, suc, ◌+◌, ◌<◌, ◌≤◌, List, [], ◌∷◌, ◌++◌, length, Result, Ok, Err, refl, sym, subst, arith, append_assoc}
-use Rattle.std.specs.Prelude.{IfErr}
+use Rattle.std.proofs.Common.{◌≡◌, ℕ, suc, ◌+◌, ◌<◌, ◌≤◌, List, [], ◌∷◌, ◌++◌, length, Result, Ok, Err, refl, sym, subst, arith, append_assoc, inl, inr}
+use Rattle.std.specs.Prelude.{◌⊎◌, IfErr}
 use Rattle.std.specs.declared.cmp.Ordering.{Ordering}
 use Rattle.std.specs.declared.cmp.Ordering.TheVariants.{Less, Equal, Greater}
 use Rattle.page_spec.specs.View.{View}
@@ -15,10 +15,10 @@ use Rattle.tree_spec.specs.Layout.{Each}
 use Rattle.tree_spec.proofs.Lists.{each-append}
 use Rattle.value_form.specs.declared.value.Value.{Value}
 use Rattle.value_form.specs.Order.{row_order}
-use Rattle.overflow.specs.Following.{shown_over, all_read}
+use Rattle.overflow.specs.Following.{last_met, shown_over, all_read}
 use Rattle.tree_read.specs.declared.entry.Spot.TheVariants.{At, Before}
 use Rattle.tree_read.specs.Payloads.{AreOfChain, BreaksPayload, IsCause, HasReadRow}
-use Rattle.tree_read.specs.Entries.{Compares, IsOfCells, EndsSeek, HasSought, EndsCompare, HasCompared}
+use Rattle.tree_read.specs.Entries.{Compares, IsOfCells, EndsSeek, HasSought, IsOneOf, EndsCompare, HasCompared}
 use Rattle.tree_read.proofs.Payloads.{of_chain}
 use Rattle.tree_read.proofs.Descents.{same_shown, read_both, cause_before}
 
@@ -165,12 +165,31 @@ is_there pages old now then node below entry low high middle inside more so_far 
   cause = tt;
 }
 
-seek_end : (usable last : ℕ) (shown : Shown) (node : Node) (k below : ℕ) (entry : List Value) (chain : List ℕ) (why : FetchFault) → k < length node.cells
-    → EndsCompare usable last shown (cell_at node k) below entry chain (Err why) → EndsSeek usable last shown node below entry (Err why)
-seek_end usable last shown node k below entry chain fault.Disk inside ends = tt
-seek_end usable last shown node k below entry chain (fault.Corrupt page) inside ends = record { k = k; inside = inside; chain = chain; breaks = ends }
-seek_end usable last shown node k below entry chain (fault.Size count) inside ends = ends
-seek_end usable last shown node k below entry chain fault.Memory inside ends = tt
+pub one_second : (pages more : List ℕ) (page : ℕ) → IsOneOf more page → IsOneOf (pages ++ more) page
+one_second [] more page one = one
+one_second (p ∷ ps) more page one = inr (one_second ps more page one)
+
+-- the page that was met last
+met_among : (below : ℕ) (chain : List ℕ) → (last_met below chain ≡ below) ⊎ IsOneOf chain (last_met below chain)
+met_among below [] = inl refl
+met_among below (p ∷ ps) = elim (met_among p ps) [ inl same ↦ inr (inl same) | inr one ↦ inr (inr one) ]
+
+named_one : (usable last : ℕ) (shown : Shown) (cell : NodeCell) (below : ℕ) (chain : List ℕ) (page : ℕ) → BreaksPayload usable last shown cell below chain page
+    → (page ≡ below) ⊎ IsOneOf chain page
+named_one usable last shown cell below chain page (BreaksPayload.TooLarge none is large) = inl is
+named_one usable last shown cell below chain page (BreaksPayload.BreaksOff next left followed is some outside) =
+    subst (λ (n : ℕ). (n ≡ below) ⊎ IsOneOf chain n) (sym is) (met_among below chain)
+named_one usable last shown cell below chain page (BreaksPayload.NoRecord next followed is none) = inl is
+
+seek_end : (usable last : ℕ) (shown : Shown) (node : Node) (k below : ℕ) (entry : List Value) (before chain : List ℕ) (why : FetchFault) → k < length node.cells
+    → EndsCompare usable last shown (cell_at node k) below entry chain (Err why) → EndsSeek usable last shown node below entry (before ++ chain) (Err why)
+seek_end usable last shown node k below entry before chain fault.Disk inside ends = tt
+seek_end usable last shown node k below entry before chain (fault.Corrupt page) inside ends = (
+  record { k = k; inside = inside; chain = chain; breaks = ends },
+  elim (named_one usable last shown (cell_at node k) below chain page ends) [ inl own ↦ inl own | inr one ↦ inr (one_second before chain page one) ],
+)
+seek_end usable last shown node k below entry before chain (fault.Size count) inside ends = ends
+seek_end usable last shown node k below entry before chain fault.Memory inside ends = tt
 
 pub seek_fails : {P : Type 0} (pages : Ghosts P) (old now then : P) (node : Node) (below : ℕ) (entry : List Value) (low high middle : ℕ) (why : FetchFault)
     → middle < length node.cells → ReadsAtMost pages now then → (so_far : SoFarIn pages old now node entry low high)
@@ -179,7 +198,7 @@ seek_fails pages old now then node below entry low high middle why inside more s
   list = so_far.list ++ one.chain;
   read = one.read;
   are = λ world told. each-append _ so_far.list one.chain (so_far.are world (more.edits.narrows world told)) (one.are world told);
-  ends = λ world told. seek_end (pages.usable old) (pages.last_page old) (shown_over pages old world) node middle below entry one.chain why inside (one.ends world told);
+  ends = λ world told. seek_end (pages.usable old) (pages.last_page old) (shown_over pages old world) node middle below entry so_far.list one.chain why inside (one.ends world told);
   cause = one.cause;
 }
 

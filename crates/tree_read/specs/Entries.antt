@@ -25,6 +25,11 @@ use Rattle.tree_read.specs.Looking.{ThereIsTree, IsNoRow}
 
 -- One page.
 
+-- the pages have a page
+abbrev pub IsOneOf : List ℕ → ℕ → Type 0
+IsOneOf [] page = ⊥
+IsOneOf (p ∷ ps) page = (page ≡ p) ⊎ IsOneOf ps page
+
 -- a cell of a node has a row, which compares so with the entry
 pub record Compares (usable last : ℕ) (shown : Shown) (node : Node) (k : ℕ) (entry : List Value) (order : Ordering) : Type 0 where
   pub inside : k < length node.cells
@@ -56,21 +61,23 @@ pub record BreaksCell (usable last : ℕ) (shown : Shown) (node : Node) (below p
   pub chain : List ℕ
   pub breaks : BreaksPayload usable last shown (cell_at node k) below chain page
 
--- How looking for an entry among the cells of a page ended.
-abbrev pub EndsSeek : (usable last : ℕ) → Shown → Node → (below : ℕ) → List Value → Result Spot FetchFault → Type 0
-EndsSeek usable last shown node below entry (Ok At) = (k : ℕ) × Compares usable last shown node k entry Equal
-EndsSeek usable last shown node below entry (Ok (Before place)) = EntryStandsAt usable last shown node entry place
-EndsSeek usable last shown node below entry (Err fault.Disk) = Unit {0}
-EndsSeek usable last shown node below entry (Err (fault.Corrupt page)) = BreaksCell usable last shown node below page
-EndsSeek usable last shown node below entry (Err (fault.Size pages)) = ⊥
-EndsSeek usable last shown node below entry (Err fault.Memory) = Unit {0}
+-- How looking for an entry among the cells of a page ended, where these pages of chains were read. The page that is named is the cells' own or
+-- one of them.
+abbrev pub EndsSeek : (usable last : ℕ) → Shown → Node → (below : ℕ) → List Value → List ℕ → Result Spot FetchFault → Type 0
+EndsSeek usable last shown node below entry list (Ok At) = (k : ℕ) × Compares usable last shown node k entry Equal
+EndsSeek usable last shown node below entry list (Ok (Before place)) = EntryStandsAt usable last shown node entry place
+EndsSeek usable last shown node below entry list (Err fault.Disk) = Unit {0}
+EndsSeek usable last shown node below entry list (Err (fault.Corrupt page)) =
+    BreaksCell usable last shown node below page × ((page ≡ below) ⊎ IsOneOf list page)
+EndsSeek usable last shown node below entry list (Err (fault.Size pages)) = ⊥
+EndsSeek usable last shown node below entry list (Err fault.Memory) = Unit {0}
 
 -- An entry was looked for among the cells of a page: pages of their chains were read and no others.
 pub record HasSought {P : Type 0} (pages : Ghosts P) (old : P) (node : Node) (below : ℕ) (entry : List Value) (result : Result Spot FetchFault) (new : P) : Type 0 where
   pub list : List ℕ
   pub read : pages.reads new ≡ all_read (pages.has old) (pages.reads old) list
   pub are : (world : View) → pages.tells new world → Each (IsOfCells (pages.usable old) (pages.last_page old) (shown_over pages old world) node) list
-  pub ends : (world : View) → pages.tells new world → EndsSeek (pages.usable old) (pages.last_page old) (shown_over pages old world) node below entry result
+  pub ends : (world : View) → pages.tells new world → EndsSeek (pages.usable old) (pages.last_page old) (shown_over pages old world) node below entry list result
   pub cause : IfErr result (IsCause (pages.faults old) (pages.faults new))
 
 -- How comparing one cell's row ended.
@@ -95,11 +102,6 @@ pub record NamesEntryChild (usable last : ℕ) (shown : Shown) (entry : List Val
   pub place : ℕ
   pub stands : EntryStandsAt usable last shown node entry place
   pub child_is : child ≡ child_at node.cells node.right place
-
--- the pages have a page
-abbrev pub IsOneOf : List ℕ → ℕ → Type 0
-IsOneOf [] page = ⊥
-IsOneOf (p ∷ ps) page = (page ≡ p) ⊎ IsOneOf ps page
 
 -- a page of the chain of a cell of one of the pages
 pub record IsChainPage (usable last : ℕ) (shown : Shown) (pages : List ℕ) (page : ℕ) : Type 0 where
@@ -130,16 +132,17 @@ pub record BreaksEntry (usable last : ℕ) (shown : Shown) (level below page : �
   pub shows : ShowsNode false shown level below node
   pub cell : BreaksCell usable last shown node below page
 
--- How a look-up ended.
-abbrev pub EndsSearch : (usable last : ℕ) → Shown → (root : ℕ) → List Value → (way : List ℕ) → (below : ℕ) → Result Bool FetchFault → Type 0
-EndsSearch usable last shown root entry way below (Ok true) = HasEntry usable last shown (length way) below entry
-EndsSearch usable last shown root entry way below (Ok false) = LacksEntry usable last shown (length way) below entry
-EndsSearch usable last shown root entry way below (Err fault.Disk) = Unit {0}
-EndsSearch usable last shown root entry way below (Err (fault.Corrupt page)) =
-    ((after : List ℕ) × BreaksWay false last shown (NamesEntryChild usable last shown entry) root way below after page)
-    ⊎ BreaksEntry usable last shown (length way) below page
-EndsSearch usable last shown root entry way below (Err (fault.Size pages)) = ⊥
-EndsSearch usable last shown root entry way below (Err fault.Memory) = Unit {0}
+-- How a look-up ended, where these pages were read. The page that is named is one of them, but a root out of range.
+abbrev pub EndsSearch : (usable last : ℕ) → Shown → (root : ℕ) → List Value → (way : List ℕ) → (below : ℕ) → (list : List ℕ) → Result Bool FetchFault → Type 0
+EndsSearch usable last shown root entry way below list (Ok true) = HasEntry usable last shown (length way) below entry
+EndsSearch usable last shown root entry way below list (Ok false) = LacksEntry usable last shown (length way) below entry
+EndsSearch usable last shown root entry way below list (Err fault.Disk) = Unit {0}
+EndsSearch usable last shown root entry way below list (Err (fault.Corrupt page)) =
+    ((list ≡ []) × BreaksWay false last shown (NamesEntryChild usable last shown entry) root way below [] page)
+    ⊎ (IsOneOf list page × (BreaksWay false last shown (NamesEntryChild usable last shown entry) root way below (below ∷ []) page
+    ⊎ BreaksEntry usable last shown (length way) below page))
+EndsSearch usable last shown root entry way below list (Err (fault.Size pages)) = ⊥
+EndsSearch usable last shown root entry way below list (Err fault.Memory) = Unit {0}
 
 -- An entry was looked up: the pages that were read are of the way, with where it comes to, and of chains of their cells. Over each world that is
 -- still told it is the way towards the entry, and ended so.
@@ -152,7 +155,7 @@ pub record HasSearched {P : Type 0} (pages : Ghosts P) (old : P) (root : ℕ) (e
       → IsWay (GoesOn (pages.last_page old) (NamesEntryChild (pages.usable old) (pages.last_page old) (shown_over pages old world) entry)) 0 root way below
   pub visits : (world : View) → pages.tells new world
       → Each (λ (page : ℕ). IsOneOf (way ++ below ∷ []) page ⊎ IsChainPage (pages.usable old) (pages.last_page old) (shown_over pages old world) (way ++ below ∷ []) page) list
-  pub ends : (world : View) → pages.tells new world → EndsSearch (pages.usable old) (pages.last_page old) (shown_over pages old world) root entry way below result
+  pub ends : (world : View) → pages.tells new world → EndsSearch (pages.usable old) (pages.last_page old) (shown_over pages old world) root entry way below list result
   pub cause : IfErr result (IsCause (pages.faults old) (pages.faults new))
 
 -- Said of trees.
