@@ -1,5 +1,5 @@
 -- What an entry's look-up met, said of an index's tree.
-use Rattle.std.proofs.Common.{◌≡◌, ℕ, zero, suc, ◌+◌, ◌<◌, ◌≤◌, true, false, Bool, List, [], ◌∷◌, ◌++◌, length, Result, Ok, Err, Some, inl, inr, refl, sym, subst, ap, ◌∙◌, arith, append_assoc, append-nil}
+use Rattle.std.proofs.Common.{◌≡◌, ℕ, zero, suc, ◌<◌, ◌≤◌, true, false, Bool, List, [], ◌∷◌, ◌++◌, length, Result, Ok, Err, Some, inl, inr, refl, sym, subst, ap, ◌∙◌, arith, append_assoc, append-nil}
 use Rattle.std.proofs.lemmas.Bool.{cases_lt}
 use Rattle.std.specs.Prelude.{◌⊎◌, IfOk, IfErr, slice_index_or}
 use Rattle.std.specs.declared.cmp.Ordering.{Ordering}
@@ -13,7 +13,7 @@ use Rattle.node_spec.specs.Cells.{NodeCell}
 use Rattle.node_spec.specs.Nodes.{Node, no_cell, cell_at}
 use Rattle.tree_spec.specs.Layout.{Each, Item}
 use Rattle.tree_spec.specs.Shown.{Shown}
-use Rattle.tree_spec.specs.Trees.{AreItems, AreUnder, IsItem, Holds, IsChild, Content, IsTree, root_least}
+use Rattle.tree_spec.specs.Trees.{AreItems, AreUnder, IsItem, Holds, IsChild, Content}
 use Rattle.tree_spec.proofs.Lists.{each-append}
 use Rattle.value_form.specs.declared.value.Value.{Value}
 use Rattle.value_form.specs.Order.{row_order}
@@ -22,12 +22,13 @@ use Rattle.value_form.proofs.OrderLaws.{row_linear}
 use Rattle.value_form.proofs.ReadingLaws.{record_once}
 use Rattle.overflow.specs.Following.{shown_over}
 use Rattle.overflow.proofs.Chains.{no_chain}
-use Rattle.tree_read.specs.Ways.{MayStand, ShowsNode, child_at, GoesOn, IsWay, BreaksWay}
+use Rattle.tree_read.specs.Ways.{child_at}
 use Rattle.tree_read.specs.Payloads.{chain_size, BreaksPayload}
 use Rattle.tree_read.specs.Looking.{IsNoRow}
 use Rattle.tree_read.specs.Entries.{Compares, EntryStandsAt, NamesEntryChild, LacksEntry, EndsSearch, HasSearched, RowsRise, IsAmong, AnswersEntry, FindsEntry, FailsEntry}
 use Rattle.tree_read.proofs.Around.{each_first, each_last}
-use Rattle.tree_read.proofs.Trees.{one_node, whole_payload}
+use Rattle.tree_read.proofs.Levels.{Under, at_root, one_node, not_both, Steps, one_down, at_end, breaks_none}
+use Rattle.tree_read.proofs.Trees.{whole_payload}
 
 -- no item of these has the entry's record
 abbrev pub NotRow : List Value → Item → Type 0
@@ -314,110 +315,22 @@ leaf_split usable last shown (cell ∷ cells) (item ∷ items) (suc place) are m
         let found = ends k (omega (arith, is)) in
         (item ∷ found.0, (found.1.0, (ap (λ (l : List Item). item ∷ l) found.1.1.0, found.1.1.1)))
 
--- A page of an index's tree of so many levels in all, so many of them above the page, with a part of the items under it.
-pub record UnderIndex (usable last : ℕ) (shown : Shown) (entry : List Value) (items : List Item) (level page total : ℕ) : Type 0 where
-  pub height : ℕ
-  pub sum : level + height ≡ total
-  pub least : ℕ
-  pub least_is : (1 ≤ least) ⊎ ((level ≡ 0) × (least ≡ root_least height))
-  pub own : List ℕ
-  pub some : List Item
-  pub holds : Holds shown least (Content false usable last shown height) page own some
-  pub part : IsPart items entry some
+-- all items are a part of them
+whole_part : (items : List Item) (entry : List Value) → IsPart items entry items
+whole_part items entry = record { front = []; back = []; items_are = sym (append-nil items); before = λ rise. tt; behind = λ rise. tt }
 
-index_root : (usable last : ℕ) (shown : Shown) (entry : List Value) (height root : ℕ) (own : List ℕ) (items : List Item)
-    → IsTree false usable last shown height root own items → UnderIndex usable last shown entry items 0 root height
-index_root usable last shown entry height root own items tree = record {
-  height = height;
-  sum = omega arith;
-  least = root_least height;
-  least_is = inr (refl, refl);
-  own = own;
-  some = items;
-  holds = tree;
-  part = record { front = []; back = []; items_are = sym (append-nil items); before = λ rise. tt; behind = λ rise. tt };
-}
-
--- a place is before a cell or behind all
-where_is : (place count : ℕ) → (place < count) ⊎ (count ≤ place)
-where_is place count = cases_lt place count
-
-record BesideIndex (usable last : ℕ) (shown : Shown) (entry : List Value) (items : List Item) (level child total : ℕ) : Type 0 where
-  pub low : 2 ≤ child
-  pub high : child ≤ last
-  pub under : UnderIndex usable last shown entry items level child total
-
-never_inner : (b : Bool) → b ≡ true → b ≡ false → ⊥
-never_inner b yes_it no_it = cc
-
-entry_child : (usable last most : ℕ) (shown : Shown) (entry : List Value) (items : List Item) (level page child total : ℕ)
-    → UnderIndex usable last shown entry items level page total → NamesEntryChild usable most shown entry level page child
-    → BesideIndex usable last shown entry items (suc level) child total
-entry_child usable last most shown entry items level page child total under names =
-    by_height under.height under.sum under.own under.some under.holds under.part
-  where
-    by_height : (height : ℕ) → level + height ≡ total → (own : List ℕ) (some : List Item) → Holds shown under.least (Content false usable last shown height) page own some
-        → IsPart items entry some → BesideIndex usable last shown entry items (suc level) child total
-    by_height zero sum own some holds part =
-        let same : names.node ≡ holds.node = one_node shown page names.node holds.node names.shows.holds holds.holds in
-        absurd (never_inner (is_leaf names.node.kind) (ap (λ (n : Node). is_leaf n.kind) same ∙ holds.content.leaf) names.inner)
-    by_height (suc height) sum own some holds part =
-        let same : names.node ≡ holds.node = one_node shown page names.node holds.node names.shows.holds holds.holds in
-        let stands : EntryStandsAt usable most shown holds.node entry names.place = subst (λ (n : Node). EntryStandsAt usable most shown n entry names.place) same names.stands in
-        let is : child ≡ child_at holds.node.cells holds.node.right names.place = subst (λ (n : Node). child ≡ child_at n.cells n.right names.place) same names.child_is in
-        let found = in_place usable last shown height holds.node.cells holds.node.right holds.below some names.place holds.content.under stands.most in
-        let sub : IsChild last shown (Content false usable last shown height) child found.own found.split.middle =
-        subst (λ (n : ℕ). IsChild last shown (Content false usable last shown height) n found.own found.split.middle) (sym is) found.sub in
-        record {
-          low = sub.least;
-          high = sub.most;
-          under = record {
-            height = height;
-            sum = omega (arith, sum);
-            least = 1;
-            least_is = inl (omega arith);
-            own = found.own;
-            some = found.split.middle;
-            holds = sub.holds;
-            part = part_in usable last most shown holds.node entry names.place items some part found.split stands (where_is names.place (length holds.node.cells));
-          };
-        }
-
-entry_end : (usable last most : ℕ) (shown : Shown) (entry : List Value) (items : List Item) (level page : ℕ) (way : List ℕ) (below total deep : ℕ) → deep ≡ level + length way
-    → IsWay (GoesOn most (NamesEntryChild usable most shown entry)) level page way below → UnderIndex usable last shown entry items level page total
-    → UnderIndex usable last shown entry items deep below total
-entry_end usable last most shown entry items level page [] below total deep is leads under =
-    subst (λ (n : ℕ). UnderIndex usable last shown entry items n below total) (omega (arith, is))
-    (subst (λ (n : ℕ). UnderIndex usable last shown entry items level n total) (sym leads) under)
-entry_end usable last most shown entry items level page (p ∷ ps) below total deep is leads under =
-    entry_end usable last most shown entry items (suc level) leads.1.0 ps below total deep (omega (arith, is)) leads.1.2
-    (entry_child usable last most shown entry items level page leads.1.0 total under leads.1.1.0).under
-
-index_stands : (usable last : ℕ) (shown : Shown) (entry : List Value) (items : List Item) (level page total : ℕ) → (under : UnderIndex usable last shown entry items level page total)
-    → total ≤ 40 → ShowsNode false shown level page under.holds.node
-index_stands usable last shown entry items level page total under low = record {
-  holds = under.holds.holds;
-  may = by_height under.height under.sum under.least_is under.own under.some under.holds;
-}
-  where
-    by_height : (height : ℕ) → level + height ≡ total → (1 ≤ under.least) ⊎ ((level ≡ 0) × (under.least ≡ root_least height)) → (own : List ℕ) (some : List Item)
-        → (holds : Holds shown under.least (Content false usable last shown height) page own some) → MayStand false page level holds.node
-    by_height zero sum least own some holds = record {
-      table_is = holds.content.table_is;
-      depth = omega (arith, sum, low);
-      enough = elim holds.enough [
-        | inl first ↦ inl first
-        | inr many ↦ elim least [ inl one ↦ inr (inr (omega (arith, many, one))) | inr root ↦ inr (inl (root.0, holds.content.leaf)) ]
-      ];
-    }
-    by_height (suc height) sum least own some holds = record {
-      table_is = holds.content.table_is;
-      depth = omega (arith, sum, low);
-      enough = elim holds.enough [
-        | inl first ↦ inl first
-        | inr many ↦ elim least [ inl one ↦ inr (inr (omega (arith, many, one))) | inr root ↦ inr (inr (omega (arith, many, root.1))) ]
-      ];
-    }
+-- the entry's place
+entry_steps : (usable last most : ℕ) (shown : Shown) (entry : List Value) (items : List Item)
+    → Steps false usable last shown (IsPart items entry) (NamesEntryChild usable most shown entry)
+entry_steps usable last most shown entry items = λ level page child total under names.
+    one_down false usable last shown (IsPart items entry) level page child total names.node names.shows.holds names.inner (λ height own some are part.
+    let found = in_place usable last shown height names.node.cells names.node.right own some names.place are names.stands.most in
+    record {
+      own = found.own;
+      some = found.split.middle;
+      sub = subst (λ (n : ℕ). IsChild last shown (Content false usable last shown height) n found.own found.split.middle) (sym names.child_is) found.sub;
+      of = part_in usable last most shown names.node entry names.place items some part found.split names.stands (cases_lt names.place (length names.node.cells));
+    }) under
 
 -- the item of a cell is among those under its page
 cell_among : (usable last : ℕ) (shown : Shown) (cells : List NodeCell) (k : ℕ) (some : List Item) → k < length cells → Split usable last shown cells k some
@@ -445,9 +358,9 @@ among_part items entry some item part among = record {
       ∙ sym (append_assoc part.front among.front (item ∷ (among.back ++ part.back)));
 }
 
-entry_item : (usable last : ℕ) (shown : Shown) (entry : List Value) (items : List Item) (level page total : ℕ) → UnderIndex usable last shown entry items level page total
+entry_item : (usable last : ℕ) (shown : Shown) (entry : List Value) (items : List Item) (level page total : ℕ) → Under false usable last shown (IsPart items entry) level page total
     → (node : Node) → shown.node page ≡ Some node → (k : ℕ) → k < length node.cells → (item : Item) × (IsAmong items item × IsItem usable last shown (cell_at node k) item)
-entry_item usable last shown entry items level page total under node holds_node k inside = by_height under.height under.own under.some under.holds under.part
+entry_item usable last shown entry items level page total under node holds_node k inside = by_height under.height under.own under.some under.holds under.of
   where
     by_height : (height : ℕ) (own : List ℕ) (some : List Item) → Holds shown under.least (Content false usable last shown height) page own some
         → IsPart items entry some → (item : Item) × (IsAmong items item × IsItem usable last shown (cell_at node k) item)
@@ -465,9 +378,9 @@ entry_item usable last shown entry items level page total under node holds_node 
         (found.0, (among_part items entry some found.0 part found.1.0, found.1.1))
 
 -- a leaf without the entry
-entry_none : (usable last most : ℕ) (shown : Shown) (entry : List Value) (items : List Item) (level page total : ℕ) → UnderIndex usable last shown entry items level page total
+entry_none : (usable last most : ℕ) (shown : Shown) (entry : List Value) (items : List Item) (level page total : ℕ) → Under false usable last shown (IsPart items entry) level page total
     → LacksEntry usable most shown level page entry → RowsRise items → Each (NotRow entry) items
-entry_none usable last most shown entry items level page total under lacks rise = by_height under.height under.own under.some under.holds under.part
+entry_none usable last most shown entry items level page total under lacks rise = by_height under.height under.own under.some under.holds under.of
   where
     by_height : (height : ℕ) (own : List ℕ) (some : List Item) → Holds shown under.least (Content false usable last shown height) page own some
         → IsPart items entry some → Each (NotRow entry) items
@@ -475,16 +388,16 @@ entry_none usable last most shown entry items level page total under lacks rise 
         let same : holds.node ≡ lacks.node = one_node shown page holds.node lacks.node holds.holds lacks.shows.holds in
         let are : AreItems false usable last shown lacks.node.cells some = subst (λ (n : Node). AreItems false usable last shown n.cells some) same holds.content.items_are in
         let split = leaf_split usable last shown lacks.node.cells some lacks.place are lacks.stands.most in
-        let rest = part_in usable last most shown lacks.node entry lacks.place items some part split.0 lacks.stands (where_is lacks.place (length lacks.node.cells)) in
+        let rest = part_in usable last most shown lacks.node entry lacks.place items some part split.0 lacks.stands (cases_lt lacks.place (length lacks.node.cells)) in
         let none : items ≡ rest.front ++ rest.back = rest.items_are ∙ ap (λ (l : List Item). rest.front ++ (l ++ rest.back)) split.1 in
         subst (Each (NotRow entry)) (sym none) (each-append (NotRow entry) rest.front rest.back (rest.before rise) (rest.behind rise))
     by_height (suc height) own some holds part =
         let same : holds.node ≡ lacks.node = one_node shown page holds.node lacks.node holds.holds lacks.shows.holds in
-        absurd (never_inner (is_leaf lacks.node.kind) lacks.leaf (ap (λ (n : Node). is_leaf n.kind) (sym same) ∙ holds.content.inner))
+        absurd (not_both (is_leaf lacks.node.kind) lacks.leaf (ap (λ (n : Node). is_leaf n.kind) (sym same) ∙ holds.content.inner))
 
 -- What was found, over a tree.
 entry_answers : (usable last most : ℕ) (shown : Shown) (entry : List Value) (items : List Item) (way : List ℕ) (below total root : ℕ) (list : List ℕ) (found : Bool)
-    → UnderIndex usable last shown entry items (length way) below total → EndsSearch usable most shown root entry way below list (Ok found) → AnswersEntry items entry found
+    → Under false usable last shown (IsPart items entry) (length way) below total → EndsSearch usable most shown root entry way below list (Ok found) → AnswersEntry items entry found
 entry_answers usable last most shown entry items way below total root list true under ends =
     let c = ends.compares in
     let item = entry_item usable last shown entry items (length way) below total under ends.node ends.shows.holds ends.k c.inside in
@@ -502,17 +415,6 @@ no_row_in usable last shown cell item below chain page is_item (BreaksPayload.Br
 no_row_in usable last shown cell item below chain page is_item (BreaksPayload.NoRecord next followed is none) =
     inl (subst (λ (b : List ℕ). (row : List Value) → IsRecord b row → ⊥) (whole_payload usable last last shown cell chain next item followed is_item) none)
 
-index_breaks : (usable last : ℕ) (shown : Shown) (entry : List Value) (items : List Item) (root total : ℕ) (way : List ℕ) (below : ℕ) (after : List ℕ) (page : ℕ)
-    → 1 ≤ root → root ≤ last → total ≤ 40 → UnderIndex usable last shown entry items (length way) below total
-    → BreaksWay false last shown (NamesEntryChild usable last shown entry) root way below after page → ⊥
-index_breaks usable last shown entry items root total way below after page low high deep under (BreaksWay.RootOutside none nothing is outside) =
-    elim outside [ inl less ↦ omega (arith, less, low) | inr more ↦ omega (arith, more, high) ]
-index_breaks usable last shown entry items root total way below after page low high deep under (BreaksWay.ShowsNone one is never) =
-    never under.holds.node (index_stands usable last shown entry items (length way) below total under deep)
-index_breaks usable last shown entry items root total way below after page low high deep under (BreaksWay.ChildOutside child one is names outside) =
-    let at = entry_child usable last last shown entry items (length way) below child total under names in
-    elim outside [ inl less ↦ omega (arith, less, at.low) | inr more ↦ omega (arith, more, at.high) ]
-
 finds_entry : {P : Type 0} (pages : Ghosts P) (old : P) (root : ℕ) (entry : List Value) (found : Bool) (new : P) → HasSearched pages old root entry (Ok found) new
     → FindsEntry pages old root entry found new
 finds_entry pages old root entry found new searched = λ world told bound height own items tree.
@@ -520,8 +422,9 @@ finds_entry pages old root entry found new searched = λ world told bound height
     let most = pages.last_page old in
     let shown = shown_over pages old world in
     entry_answers usable bound most shown entry items searched.way searched.below height root searched.list found
-    (entry_end usable bound most shown entry items 0 root searched.way searched.below height (length searched.way) (omega arith) (searched.leads world told)
-    (index_root usable bound shown entry height root own items tree)) (searched.ends world told)
+    (at_end false usable bound most shown (IsPart items entry) (NamesEntryChild usable most shown entry) 0 root searched.way searched.below height (length searched.way) (omega arith)
+    (entry_steps usable bound most shown entry items) (searched.leads world told)
+    (at_root false usable bound shown (IsPart items entry) height root own items (whole_part items entry) tree)) (searched.ends world told)
 
 fails_entry : {P : Type 0} (pages : Ghosts P) (old : P) (root : ℕ) (entry : List Value) (why : FetchFault) (new : P) → HasSearched pages old root entry (Err why) new
     → FailsEntry pages old root why new
@@ -530,12 +433,14 @@ fails_entry pages old root entry (fault.Corrupt page) new searched = λ items th
     let usable = pages.usable old in
     let last = pages.last_page old in
     let shown = shown_over pages old there.world in
-    let under = entry_end usable last last shown entry items 0 root searched.way searched.below there.height (length searched.way) (omega arith)
-    (searched.leads there.world there.told) (index_root usable last shown entry there.height root there.own items there.tree) in
+    let steps = entry_steps usable last last shown entry items in
+    let under = at_end false usable last last shown (IsPart items entry) (NamesEntryChild usable last shown entry) 0 root searched.way searched.below there.height (length searched.way)
+    (omega arith) steps (searched.leads there.world there.told)
+    (at_root false usable last shown (IsPart items entry) there.height root there.own items (whole_part items entry) there.tree) in
     elim (searched.ends there.world there.told) [
-      | inl breaks ↦ absurd (index_breaks usable last shown entry items root there.height searched.way searched.below [] page there.least there.most there.low under breaks.1)
+      | inl breaks ↦ absurd (breaks_none false usable last shown (IsPart items entry) (NamesEntryChild usable last shown entry) root there.height searched.way searched.below [] page there.least there.most there.low steps under breaks.1)
       | inr read ↦ elim read.1 [
-        | inl breaks ↦ absurd (index_breaks usable last shown entry items root there.height searched.way searched.below (searched.below ∷ []) page there.least there.most there.low under breaks)
+        | inl breaks ↦ absurd (breaks_none false usable last shown (IsPart items entry) (NamesEntryChild usable last shown entry) root there.height searched.way searched.below (searched.below ∷ []) page there.least there.most there.low steps under breaks)
         | inr row ↦ (
             let item = entry_item usable last shown entry items (length searched.way) searched.below there.height under row.node row.shows.holds row.cell.k row.cell.inside in
             (item.0, (item.1.0, no_row_in usable last shown (cell_at row.node row.cell.k) item.0 searched.below row.cell.chain page item.1.1 row.cell.breaks)))

@@ -3,6 +3,7 @@ pub mod Leaves
 pub mod Nodes
 pub mod Payloads
 pub mod Descents
+pub mod Levels
 pub mod Trees
 pub mod Seeking
 pub mod Searching
