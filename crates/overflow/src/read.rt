@@ -50,6 +50,7 @@ pub fn read_chain_with<P: Pages>(
     ensures bytes { OnOk result (GivesChain P.PagesTells pages.old first size to.old.items to.new.items pages.new) }
     ensures sound { IfErr result (λ why. ThereIsChain P.PagesTells pages.old first size pages.new → IsFromOutside (P.faults pages.old) (P.faults pages.new) why) }
     ensures followed { HasFollowed P.PagesTells pages.old first size to.old.items result to.new.items pages.new }
+    ensures count { OnOk result (length to.new.items ≡ length to.old.items + size) }
     ensures back { OnErr result (to.new.items ≡ to.old.items) }
     ensures reading { ReadsAtMost P.PagesTells pages.old pages.new }
     ensures room { length buf.new ≡ length buf.old }
@@ -75,6 +76,7 @@ fn follow<P: Pages>(
     requires ready { P.ready pages.old }
     requires room { length buf.old ≡ P.page_size pages.old }
     ensures followed { HasFollowed P.PagesTells pages.old first size to.old.items result to.new.items pages.new }
+    ensures count { OnOk result (length to.new.items ≡ length to.old.items + size) }
     ensures kept { take (length to.old.items) to.new.items ≡ to.old.items }
     ensures reading { ReadsAtMost P.PagesTells pages.old pages.new }
 {
@@ -118,6 +120,7 @@ fn least(left: u64, most: usize) -> usize
 fn append_content(to: &mut Vec<u8>, page: &[u8], count: usize) -> Result<(), FetchFault>
     requires { 4 + count ≤ length page.now }
     ensures ok { OnOk result (to.new.items ≡ to.old.items ++ take count (drop 4 page.now)) }
+    ensures count { OnOk result (length to.new.items ≡ length to.old.items + count) }
     ensures err { OnErr result (to.new.items ≡ to.old.items) }
     ensures cause { IfErr result (λ why. why ≡ fault.Memory) }
 {

@@ -14,7 +14,7 @@ mod sizes;
 
 pub use cells::{Cell, cell_len, read_cell};
 pub use front::content_start;
-pub use kinds::{flag_of, header_at, header_size, is_leaf, kind_of, pointers_at};
+pub use kinds::{flag_of, header_at, header_size, is_leaf, is_table, kind_of, pointers_at};
 pub use node_spec::Kind;
 pub use page::{Page, PageFault};
 pub use read::read_page;

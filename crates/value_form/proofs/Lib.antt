@@ -1,4 +1,4 @@
-mod OrderLaws
-mod ReadingLaws
+pub mod OrderLaws
+pub mod ReadingLaws
 mod SerialLaws
 mod WrittenLaws

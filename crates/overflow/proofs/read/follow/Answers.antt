@@ -9,6 +9,7 @@ pub links-init : goal.links-init
 links-init g c = record {
   reading = reading_same g.P.PagesTells c.args.pages.now c.requires.ready (g.P.PagesTells.follows_itself _);
   room = c.requires.room;
+  count = refl;
   grown = ([], sym (append-nil c.args.to.now.items));
   so_far = ([], nothing_yet g.P.PagesTells c.args.pages.now c.args.first c.args.size c.args.to.now.items);
 }
@@ -67,6 +68,7 @@ links-preserved g c =
     record {
       reading = reading_join p c.args.pages.now c.links.pages c.fetch.new.self before.reading read.reading (g.P.PagesTells.follows_on);
       room = c.fetch.auto.buf ∙ before.room;
+      count = omega (arith, c.in-Ok-append_content.ensures.count, before.count, c.least-count.ensures);
       grown = (before.grown.0 ++ piece, c.in-Ok-append_content.ensures.ok ∙ ap (λ (l : List ℕ). l ++ piece) before.grown.1 ∙ append_assoc c.args.to.now.items before.grown.0 piece);
       so_far = (
         before.so_far.0 ++ c.links.next ∷ [],

@@ -1,0 +1,10 @@
+pub mod Around
+pub mod Leaves
+pub mod Nodes
+pub mod Payloads
+pub mod Descents
+pub mod Levels
+pub mod Trees
+pub mod Seeking
+pub mod Searching
+pub mod IndexTrees

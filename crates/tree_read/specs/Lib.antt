@@ -1,0 +1,4 @@
+pub mod Ways
+pub mod Payloads
+pub mod Looking
+pub mod Entries
