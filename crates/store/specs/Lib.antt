@@ -7,3 +7,4 @@ pub mod Planning
 pub mod Writing
 pub mod Tells
 pub mod Committing
+pub mod CommittedFrom

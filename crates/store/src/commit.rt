@@ -1,13 +1,22 @@
 // A commit: barred, planned, laid and written.
-ghost use Rattle.std.specs.Prelude.{◌≡◌};
+ghost use Rattle.std.specs.Prelude.{◌≡◌, ◌+◌, true, length, List, None, IfSome, Contains};
+ghost use Rattle.page_spec.specs.PageMap.{page_at};
+ghost use Rattle.engine_spec.specs.Change.{laid};
+ghost use Rattle.engine_spec.specs.Events.{IsClear};
+ghost use Rattle.engine_spec.specs.declared.pins.Pin.{Pin as Pins};
 ghost use Rattle.page_face.specs.Pins.{IsLive};
-ghost use Rattle.page_face.specs.Prepared.{IsFit};
+ghost use Rattle.page_face.specs.Prepared.{IsFit, change_in, submitted};
 ghost use Rattle.page_face.specs.Calls.{HasCommitted};
-ghost use Rattle.store.specs.Kept.{state_of, IsLiveIn};
+ghost use Rattle.store_spec.specs.Store.{newest_told};
+ghost use Rattle.store.specs.Kept.{kept_of, state_of, IsLiveIn};
 ghost use Rattle.store.specs.Tells.{store_tells};
+ghost use Rattle.store.specs.Planning.{IsPlanOf, HasPlanRoom};
+ghost use Rattle.store.specs.CommittedFrom.{CommittedFrom, before_of};
 
+use crate::plan::Plan;
 use crate::store::Store;
-use disk_face::{Disk, Salts};
+use disk_face::{Disk, Failed, Salts};
+use engine_spec::PageImage;
 use page_face::{CommitFault, Means, Pin, Prepared, Readers, Receipt, Who};
 
 impl<D: Disk, W: Salts, M: Means> Store<D, W, M> {
@@ -27,9 +36,76 @@ impl<D: Disk, W: Salts, M: Means> Store<D, W, M> {
         requires fit { IsFit (state_of D.DiskTells self.old readers.now) pin.now prepared }
         ensures { HasCommitted M.Means (store_tells D.DiskTells W.loans M.Means readers.now) self.old pin.now prepared who result self.new }
     {
+        if !prepared.wrote {
+            return Ok(Receipt::ReadOnly(prepared.snap));
+        }
+        match self.bar(readers, &prepared, who) {
+            Some(fault) => Err((fault, prepared)),
+            None => self.add(pin, readers, prepared, who),
+        }
+    }
+
+    // Commits a transaction that nothing bars.
+    fn add(
+        &mut self,
+        pin: &Pin,
+        readers: &Readers,
+        prepared: Prepared<M>,
+        who: Who,
+    ) -> Result<Receipt, (CommitFault, Prepared<M>)>
+        requires live { (pins : List Pins) × IsLiveIn D.DiskTells self.old readers.now pins × Contains pins pin.now }
+        requires fit { IsFit (state_of D.DiskTells self.old readers.now) pin.now prepared }
+        requires clear { IsClear (state_of D.DiskTells self.old readers.now) (submitted prepared who) }
+        ensures { CommittedFrom D.DiskTells W.loans M.Means (before_of D.DiskTells W.loans self.old) readers.now pin.now prepared who result self.new }
+    {
+        let plan = match self.plan(prepared.changed.as_slice()) {
+            Ok(plan) => plan,
+            Err(_) => return Err((CommitFault::Memory, prepared)),
+        };
+        match self.lay(&prepared) {
+            Ok(()) => self.write(pin, readers, plan, prepared, who),
+            Err(Failed) => Err((CommitFault::Disk, prepared)),
+        }
+    }
+
+    // Writes a commit whose page 1 is in the buffer.
+    fn write(
+        &mut self,
+        pin: &Pin,
+        readers: &Readers,
+        plan: Plan,
+        prepared: Prepared<M>,
+        who: Who,
+    ) -> Result<Receipt, (CommitFault, Prepared<M>)>
+        requires live { (pins : List Pins) × IsLiveIn D.DiskTells self.old readers.now pins × Contains pins pin.now }
+        requires fit { IsFit (state_of D.DiskTells self.old readers.now) pin.now prepared }
+        requires clear { IsClear (state_of D.DiskTells self.old readers.now) (submitted prepared who) }
+        requires plan { IsPlanOf prepared.changed plan }
+        requires room { HasPlanRoom self.old (length plan.order.items + 1) }
+        requires laid { IfSome (newest_told (kept_of self.old) (D.told self.old.disk)) (λ pages. self.old.buf.items ≡ page_at (laid pages (change_in prepared)) 1) }
+        ensures { CommittedFrom D.DiskTells W.loans M.Means (before_of D.DiskTells W.loans self.old) readers.now pin.now prepared who result self.new }
+    {
         let _ = pin;
-        let _ = readers;
-        let _ = who;
-        Err((CommitFault::Memory, prepared))
+        match self.ready(readers, prepared.changed.as_slice(), &plan) {
+            Ok(()) => match self.write_frames(prepared.changed.as_slice(), &plan) {
+                Ok(()) => Ok(Receipt::At(self.enter(plan.wrote, prepared, who))),
+                Err(Failed) => Err((CommitFault::Disk, prepared)),
+            },
+            Err(Failed) => Err((CommitFault::Disk, prepared)),
+        }
+    }
+
+    // Goes over to the other log where the rule has it so.
+    fn ready(
+        &mut self,
+        readers: &Readers,
+        changed: &[PageImage],
+        plan: &Plan,
+    ) -> Result<(), Failed> {
+        if self.goes_over(readers) {
+            self.go_over(changed, plan)
+        } else {
+            Ok(())
+        }
     }
 }
