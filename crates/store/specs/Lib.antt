@@ -6,3 +6,4 @@ pub mod Barring
 pub mod Planning
 pub mod Writing
 pub mod Tells
+pub mod Solo
