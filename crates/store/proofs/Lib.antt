@@ -2,3 +2,6 @@ mod Zipped
 mod Bare
 mod Fetched
 mod Buffers
+mod SoloPins
+mod SoloCalls
+mod SoloSteps
