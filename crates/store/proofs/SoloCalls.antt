@@ -1,5 +1,5 @@
 -- Calls of a store that become calls of the engine over it: a page that is read, how the logs stand, a commit.
-use Rattle.std.proofs.Common.{◌≡◌, ◌∙◌, ℕ, List, ◌++◌, true, refl, sym, ap, subst, Option, Some, Result, Ok, Err}
+use Rattle.std.proofs.Common.{◌≡◌, ◌∙◌, ℕ, List, ◌++◌, refl, sym, ap, subst, Option, Some, Result, Ok, Err}
 use Rattle.std.specs.Prelude.{OnOk, IfSome, IfErr, is_ok}
 use Rattle.disk_face.specs.declared.tells.DiskTells.{Ghosts as DiskGhosts}
 use Rattle.disk_face.specs.Faults.{Counts}
@@ -27,7 +27,6 @@ use Rattle.store_spec.specs.Steady.{IsSteady}
 use Rattle.store_spec.specs.Store.{pin_told, store_state, two_logs}
 use Rattle.store_spec.specs.Standing.{IsLiveStore, IsOpenedAt, StandsFrom}
 use Rattle.store.specs.declared.store.Store.{Store}
-use Rattle.store.specs.declared.solo.Solo.{Solo}
 use Rattle.store.specs.Kept.{kept_of, state_of, IsLiveIn}
 use Rattle.store.specs.Solo.{solo_tells}
 use Rattle.store.specs.Tells.{store_tells}

@@ -1,5 +1,5 @@
 -- A store as an engine with one reader more, and with one fewer.
-use Rattle.std.proofs.Common.{◌≡◌, ◌∙◌, ℕ, ◌+◌, ◌-◌, ◌<◌, ◌≤◌, ◌==◌, Bool, true, false, if◌then◌else◌, List, [], ◌∷◌, ◌++◌, length, refl, sym, ap, subst, arith, All, get_or, length-append, add-one, Option, Some, None}
+use Rattle.std.proofs.Common.{◌≡◌, ℕ, ◌+◌, ◌-◌, ◌<◌, ◌≤◌, ◌==◌, Bool, true, false, if◌then◌else◌, List, ◌∷◌, ◌++◌, length, refl, sym, ap, subst, arith, All, get_or, length-append, add-one, Option, Some, None}
 use Rattle.std.proofs.lemmas.List.{get_or-append-add, get_or_append_left}
 use Rattle.std.proofs.lemmas.List.Elements.{All-append, All-cons}
 use Rattle.disk_face.specs.declared.tells.DiskTells.{Ghosts as DiskGhosts}
@@ -10,8 +10,6 @@ use Rattle.engine_spec.specs.declared.pins.Pin.{Pin}
 use Rattle.engine_spec.specs.declared.pins.Lock.{Lock}
 use Rattle.engine_spec.specs.declared.pins.Lock.TheVariants.{Part1, Part1Full2, Part2, Part2Full1}
 use Rattle.engine_spec.specs.declared.pins.Readers.{Readers}
-use Rattle.engine_spec.specs.Events.{Begins}
-use Rattle.engine_spec.specs.State.{Later}
 use Rattle.engine_spec.specs.TwoLogs.{TwoLogs, lock_of, holders, one_fewer, change_readers}
 use Rattle.engine_spec.proofs.Here.{later_same}
 use Rattle.page_face.specs.declared.means.Means.{Ghosts as Meaning}
@@ -23,7 +21,6 @@ use Rattle.store_spec.proofs.Counting.{counts_more, counts_fewer}
 use Rattle.store_spec.proofs.NamedLaws.{named_held}
 use Rattle.store_spec.proofs.Runs.{begin_holds, newest_pin_map}
 use Rattle.store.specs.declared.store.Store.{Store}
-use Rattle.store.specs.declared.solo.Solo.{Solo}
 use Rattle.store.specs.Kept.{kept_of, state_of, IsLiveIn}
 use Rattle.store.specs.Solo.{solo_tells}
 

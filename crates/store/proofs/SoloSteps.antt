@@ -1,5 +1,5 @@
 -- A step of a checkpoint of a store, as a step of the engine over it.
-use Rattle.std.proofs.Common.{◌≡◌, ◌∙◌, ℕ, List, ◌++◌, true, length, refl, sym, ap, subst, Option, Some, None, Result, Ok, Err}
+use Rattle.std.proofs.Common.{◌≡◌, ◌∙◌, ℕ, List, ◌++◌, refl, sym, ap, subst, Option, Some, None, Result, Ok, Err}
 use Rattle.std.specs.Prelude.{IfSome, IfOk, is_ok}
 use Rattle.std.specs.Option.{option_map}
 use Rattle.disk_face.specs.declared.Failed.{Failed}
@@ -7,15 +7,12 @@ use Rattle.disk_face.specs.declared.tells.DiskTells.{Ghosts as DiskGhosts}
 use Rattle.disk_face.specs.Faults.{Counts}
 use Rattle.disk_face.specs.Stays.{OnlyWrites}
 use Rattle.disk_face.specs.Steps.{History, reads}
-use Rattle.page_spec.specs.PageMap.{PageMap}
 use Rattle.log_spec.specs.Accept.{Frame}
 use Rattle.engine_spec.specs.declared.pins.Ckpt.{Ckpt}
 use Rattle.engine_spec.specs.declared.pins.Pin.{Pin}
 use Rattle.engine_spec.specs.declared.pins.Readers.{Readers}
 use Rattle.engine_spec.specs.Events.{TakesStep}
-use Rattle.engine_spec.specs.State.{EngineState, Stop}
 use Rattle.engine_spec.specs.TwoLogs.{TwoLogs, Steps}
-use Rattle.engine_spec.specs.Written.{numbers_from}
 use Rattle.engine_spec.proofs.Here.{during_here}
 use Rattle.page_face.specs.declared.means.Means.{Ghosts as Meaning}
 use Rattle.page_face.specs.Pins.{IsLive}
@@ -30,7 +27,6 @@ use Rattle.store_spec.proofs.PinLaws.{step_pin, step_live, step_named, step_from
 use Rattle.store_spec.proofs.Standing.{read_same}
 use Rattle.store_spec.proofs.Taken.{Taken, Stays, Goes, taken}
 use Rattle.store.specs.declared.store.Store.{Store}
-use Rattle.store.specs.declared.solo.Solo.{Solo}
 use Rattle.store.specs.Kept.{kept_of, state_of, IsAble, IsLiveIn}
 use Rattle.store.specs.Solo.{solo_tells}
 

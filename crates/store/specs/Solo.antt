@@ -1,15 +1,13 @@
 -- What a store with its readers beside it tells, as an engine.
-use Rattle.std.specs.Prelude.{ℕ, List, Contains}
+use Rattle.std.specs.Prelude.{ℕ, List}
 use Rattle.disk_face.specs.declared.tells.DiskTells.{Ghosts as DiskGhosts}
 use Rattle.page_spec.specs.PageMap.{PageMap}
-use Rattle.engine_spec.specs.declared.pins.Pin.{Pin}
 use Rattle.engine_spec.specs.declared.pins.Readers.{Readers}
 use Rattle.engine_spec.specs.Good.{RunsFrom}
 use Rattle.page_face.specs.declared.means.Means.{Ghosts as Meaning}
 use Rattle.page_face.specs.declared.engine_tells.EngineTells.{Ghosts}
 use Rattle.page_face.specs.Pins.{IsLive}
 use Rattle.store_spec.proofs.Runs.{runs}
-use Rattle.store.specs.declared.store.Store.{Store}
 use Rattle.store.specs.declared.solo.Solo.{Solo}
 use Rattle.store.specs.Kept.{kept_of}
 use Rattle.store.specs.Tells.{store_tells}

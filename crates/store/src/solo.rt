@@ -1,15 +1,17 @@
 // A store as an engine: its readers are counted beside it.
 //
 // Its invariant is that of its store (`IsLiveIn`): each pin that holds is counted among the readers of its lock.
-ghost use Rattle.std.specs.Prelude.{◌≡◌, []};
+ghost use Rattle.std.specs.Prelude.{◌≡◌, [], ◌++◌};
 ghost use Rattle.disk_face.specs.Faults.{one_more};
-ghost use Rattle.engine_spec.specs.TwoLogs.{one_fewer, change_readers};
 ghost use Rattle.page_spec.specs.PageMap.{PageMap};
+ghost use Rattle.crash_spec.specs.Opening.{Opening};
+ghost use Rattle.engine_spec.specs.TwoLogs.{one_fewer, change_readers};
 ghost use Rattle.page_face.specs.Pins.{IsLive};
 ghost use Rattle.page_face.specs.Prepared.{IsFit};
 ghost use Rattle.page_face.specs.Calls.{HasCommitted, IsGoodForOthers};
+ghost use Rattle.store_spec.specs.Standing.{StandsFrom, IsOpenedAt};
+ghost use Rattle.store.specs.Kept.{kept_of, state_of, IsLiveIn};
 ghost use Rattle.store.specs.Solo.{no_readers, solo_tells};
-ghost use Rattle.store.specs.Tells.{store_tells};
 
 use crate::store::Store;
 use disk_face::{Disk, Failed, Salts};
@@ -26,10 +28,14 @@ pub struct Solo<D, W, M> {
 }
 
 impl<D: Disk, W: Salts, M: Means> Solo<D, W, M> {
-    /// The store as an engine. No pin holds.
+    /// The store as an engine, with no reader. Where the store holds no pin, the engine holds none, stands for the same runs, and is opened as the store is.
     pub fn new(store: Store<D, W, M>) -> Solo<D, W, M>
-        ensures store { result.store ≡ store }
-        ensures readers { result.readers ≡ no_readers }
+        ensures state { ⟦<Solo<D, W, M> as EngineTells<M>>⟧.state result ≡ state_of D.DiskTells store no_readers }
+        ensures live { IsLiveIn D.DiskTells store no_readers [] → ⟦<Solo<D, W, M> as EngineTells<M>>⟧.live result [] }
+        ensures runs { (first : PageMap) → StandsFrom (M.sound first) (M.leads first) first (D.told store.disk) (kept_of store) no_readers
+            → ⟦<Solo<D, W, M> as EngineTells<M>>⟧.stands_from result first }
+        ensures opened { (opening : Opening) → IsOpenedAt opening (kept_of store) (D.told store.disk) → ⟦<Solo<D, W, M> as EngineTells<M>>⟧.opened result opening }
+        ensures loans { ⟦<Solo<D, W, M> as EngineTells<M>>⟧.loans result ≡ D.loans store.disk ++ W.loans store.salts }
     {
         Solo {
             store,
