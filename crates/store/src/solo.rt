@@ -47,6 +47,13 @@ impl<D: Disk, W: Salts, M: Means> Solo<D, W, M> {
             },
         }
     }
+
+    /// The store, moved out. Its readers are no longer counted.
+    pub fn into_store(self) -> Store<D, W, M>
+        ensures { result ≡ self.store }
+    {
+        self.store
+    }
 }
 
 // The readers with one more of this lock. A count that reaches 2^64-1 stays there.
