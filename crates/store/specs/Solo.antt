@@ -8,6 +8,7 @@ use Rattle.page_face.specs.declared.means.Means.{Ghosts as Meaning}
 use Rattle.page_face.specs.declared.engine_tells.EngineTells.{Ghosts}
 use Rattle.page_face.specs.Pins.{IsLive}
 use Rattle.store_spec.proofs.Runs.{runs}
+use Rattle.store.specs.declared.store.Store.{Store}
 use Rattle.store.specs.declared.solo.Solo.{Solo}
 use Rattle.store.specs.Kept.{kept_of}
 use Rattle.store.specs.Tells.{store_tells}
@@ -15,6 +16,10 @@ use Rattle.store.specs.Tells.{store_tells}
 -- no reader holds a lock
 abbrev pub no_readers : Readers
 no_readers = record { part1 = 0; part1_full2 = 0; part2 = 0; part2_full1 = 0 }
+
+-- the store of an engine
+abbrev pub store_of : {D W M : Type 0} → Solo D W M → Store D W M
+store_of solo = solo.store
 
 -- It tells what its store does with the readers that it counts.
 abbrev pub solo_tells : {D W M : Type 0} → DiskGhosts D → (W → List ℕ) → Meaning M → Ghosts (Solo D W M) M

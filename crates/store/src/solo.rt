@@ -1,7 +1,7 @@
 // A store as an engine: its readers are counted beside it.
 //
 // Its invariant is that of its store (`IsLiveIn`): each pin that holds is counted among the readers of its lock.
-ghost use Rattle.std.specs.Prelude.{◌≡◌, [], ◌++◌};
+ghost use Rattle.std.specs.Prelude.{◌≡◌, []};
 ghost use Rattle.disk_face.specs.Faults.{one_more};
 ghost use Rattle.page_spec.specs.PageMap.{PageMap};
 ghost use Rattle.crash_spec.specs.Opening.{Opening};
@@ -9,9 +9,8 @@ ghost use Rattle.engine_spec.specs.TwoLogs.{one_fewer, change_readers};
 ghost use Rattle.page_face.specs.Pins.{IsLive};
 ghost use Rattle.page_face.specs.Prepared.{IsFit};
 ghost use Rattle.page_face.specs.Calls.{HasCommitted, IsGoodForOthers};
-ghost use Rattle.store_spec.specs.Standing.{StandsFrom, IsOpenedAt};
-ghost use Rattle.store.specs.Kept.{kept_of, state_of, IsLiveIn};
-ghost use Rattle.store.specs.Solo.{no_readers, solo_tells};
+ghost use Rattle.store.specs.Tells.{store_tells};
+ghost use Rattle.store.specs.Solo.{no_readers, store_of, solo_tells};
 
 use crate::store::Store;
 use disk_face::{Disk, Failed, Salts};
@@ -30,12 +29,14 @@ pub struct Solo<D, W, M> {
 impl<D: Disk, W: Salts, M: Means> Solo<D, W, M> {
     /// The store as an engine, with no reader. Where the store holds no pin, the engine holds none, stands for the same runs, and is opened as the store is.
     pub fn new(store: Store<D, W, M>) -> Solo<D, W, M>
-        ensures state { ⟦<Solo<D, W, M> as EngineTells<M>>⟧.state result ≡ state_of D.DiskTells store no_readers }
-        ensures live { IsLiveIn D.DiskTells store no_readers [] → ⟦<Solo<D, W, M> as EngineTells<M>>⟧.live result [] }
-        ensures runs { (first : PageMap) → StandsFrom (M.sound first) (M.leads first) first (D.told store.disk) (kept_of store) no_readers
+        ensures store { store_of result ≡ store }
+        ensures state { ⟦<Solo<D, W, M> as EngineTells<M>>⟧.state result ≡ (store_tells D.DiskTells W.loans M.Means no_readers).state store }
+        ensures live { (store_tells D.DiskTells W.loans M.Means no_readers).live store [] → ⟦<Solo<D, W, M> as EngineTells<M>>⟧.live result [] }
+        ensures runs { (first : PageMap) → (store_tells D.DiskTells W.loans M.Means no_readers).stands_from store first
             → ⟦<Solo<D, W, M> as EngineTells<M>>⟧.stands_from result first }
-        ensures opened { (opening : Opening) → IsOpenedAt opening (kept_of store) (D.told store.disk) → ⟦<Solo<D, W, M> as EngineTells<M>>⟧.opened result opening }
-        ensures loans { ⟦<Solo<D, W, M> as EngineTells<M>>⟧.loans result ≡ D.loans store.disk ++ W.loans store.salts }
+        ensures opened { (opening : Opening) → (store_tells D.DiskTells W.loans M.Means no_readers).opened store opening
+            → ⟦<Solo<D, W, M> as EngineTells<M>>⟧.opened result opening }
+        ensures loans { ⟦<Solo<D, W, M> as EngineTells<M>>⟧.loans result ≡ (store_tells D.DiskTells W.loans M.Means no_readers).loans store }
     {
         Solo {
             store,
@@ -50,7 +51,7 @@ impl<D: Disk, W: Salts, M: Means> Solo<D, W, M> {
 
     /// The store, moved out. Its readers are no longer counted.
     pub fn into_store(self) -> Store<D, W, M>
-        ensures { result ≡ self.store }
+        ensures { result ≡ store_of self }
     {
         self.store
     }
