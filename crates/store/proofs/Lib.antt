@@ -4,3 +4,6 @@ mod Fetched
 mod Buffers
 mod Images
 mod Entering
+mod SoloPins
+mod SoloCalls
+mod SoloSteps

@@ -8,3 +8,4 @@ pub mod Writing
 pub mod Tells
 pub mod Committing
 pub mod CommittedFrom
+pub mod Solo

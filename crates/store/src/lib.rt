@@ -11,10 +11,12 @@ mod kept_pages;
 mod lay;
 mod plan;
 mod room;
+mod solo;
 mod store;
 mod write;
 
 pub use commits::{Commits, Wrote};
 pub use kept_pages::KeptPages;
 pub use plan::Plan;
+pub use solo::Solo;
 pub use store::{Halt, Store};
