@@ -51,6 +51,7 @@ pub fn write_commit<D: Disk>(
     ensures synced { OnOk result ((mid : Option History) × (D.told disk.new ≡ after (Synced (current_file pair.old)) mid)
         × GoesBy (IsCommitStep (current_file pair.old) (current_header pair.old)) (D.told disk.old) mid) }
     ensures reached { OnOk result (IsReached (D.told disk.new) pair.new) }
+    ensures fits { written_frames pair.new ≤ 4294967295 }
     ensures elsewhere { SameElsewhere (current_file pair.old) (D.told disk.old) (D.told disk.new) }
     ensures stays { OnlyWrites D.DiskTells disk.old disk.new }
     ensures faults { Counts (is_ok result) (D.faults disk.old) (D.faults disk.new) }
@@ -81,6 +82,7 @@ fn append_pages<D: Disk>(
     ensures fails { OnErr result (FailsToAppend pair.old (D.told disk.old) (D.told disk.new)) }
     ensures becomes { pair.new ≡ with_appended pair.old pair.new }
     ensures counted { OnOk result (pair.new.appended ≡ length pages.now.order.now) }
+    ensures few { pair.new.appended ≤ length pages.now.order.now }
     ensures reached { OnOk result (IsReached (D.told disk.new) pair.new) }
     ensures steps { GoesBy (IsCommitStep (current_file pair.old) (current_header pair.old)) (D.told disk.old) (D.told disk.new) }
     ensures elsewhere { SameElsewhere (current_file pair.old) (D.told disk.old) (D.told disk.new) }

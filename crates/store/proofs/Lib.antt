@@ -7,3 +7,12 @@ mod Entering
 mod SoloPins
 mod SoloCalls
 mod SoloSteps
+mod Laid
+mod Readying
+mod Torn
+mod Finishing
+mod Fitting
+mod Going
+mod Finished
+mod Resting
+mod Calls

@@ -1,5 +1,5 @@
 -- What a commit does, said from what the store kept and its disk told before.
-use Rattle.std.specs.Prelude.{◌≡◌, ℕ, List, ◌++◌, Contains, Option, IfSome, Result, Ok, Err}
+use Rattle.std.specs.Prelude.{◌≡◌, ℕ, List, ◌++◌, Contains, Option, None, IfSome, Result, Ok, Err}
 use Rattle.disk_face.specs.declared.tells.DiskTells.{Ghosts as DiskGhosts}
 use Rattle.disk_face.specs.Steps.{History}
 use Rattle.page_spec.specs.PageMap.{PageMap}
@@ -18,7 +18,10 @@ use Rattle.page_face.specs.Prepared.{submitted, IsGood, IsHandedBack}
 use Rattle.page_face.specs.Calls.{IsLaidOn}
 use Rattle.store_spec.specs.Store.{StoreData, pin_told, store_state}
 use Rattle.store_spec.specs.Standing.{IsLiveStore, StandsFrom, IsOpenedAt}
-use Rattle.store_spec.specs.Steady.{IsSteady}
+use Rattle.store_spec.specs.Steady.{IsSteady, HasBegun}
+use Rattle.store_spec.specs.Pins.{IsOfCurrent}
+use Rattle.store_spec.proofs.CommitAnswers.{IsReadied}
+use Rattle.store_spec.proofs.SteadyLaws.{IsSteadyBut}
 use Rattle.store.specs.declared.store.Store.{Store}
 use Rattle.store.specs.Kept.{kept_of, state_of, IsLiveIn}
 
@@ -77,3 +80,18 @@ pub record CommittedFrom {D W M : Type 0} (disk : DiskGhosts D) (loans : W → L
   pub answer : AnswersFrom means before readers pin prepared who result (state_of disk new readers)
   pub runs : KeepsRunsFrom disk means before readers pin prepared result new
   pub leaves : LeavesFrom disk loans before readers new
+
+-- A store that is ready to write a commit: as it was before, or gone over to its other log, where the rule has it so.
+pub record IsReadyFrom {D W M : Type 0} (disk : DiskGhosts D) (loans : W → List ℕ) (means : Meaning M) (before : Before) (readers : Readers) (mid : Store D W M) : Type 0 where
+  pub readied : IsReadied before.kept (kept_of mid) readers before.told (disk.told mid.disk)
+  pub live : (pins : List Pin) → IsLiveStore before.told before.kept readers pins → IsSteady before.told before.kept readers pins → IsLiveStore (disk.told mid.disk) (kept_of mid) readers pins
+  pub steady : (pins : List Pin) → IsLiveStore before.told before.kept readers pins → IsSteady before.told before.kept readers pins → IsSteadyBut (disk.told mid.disk) (kept_of mid) readers pins
+  pub begun : (pins : List Pin) → IsLiveStore before.told before.kept readers pins → IsSteady before.told before.kept readers pins → (pin : Pin) → Contains pins pin
+      → IsOfCurrent (kept_of mid) pin → HasBegun (kept_of mid)
+  pub maps : (pins : List Pin) (pin : Pin) → IsLiveStore before.told before.kept readers pins → IsSteady before.told before.kept readers pins → Contains pins pin
+      → pin_told (kept_of mid) (disk.told mid.disk) pin ≡ pin_told before.kept before.told pin
+  pub runs : (pins : List Pin) → IsLiveStore before.told before.kept readers pins → IsSteady before.told before.kept readers pins → (first : PageMap) → StoodFrom means before readers first
+      → StandsFrom (means.sound first) (means.leads first) first (disk.told mid.disk) (kept_of mid) readers
+  pub running : mid.stop ≡ None
+  pub faults : disk.faults mid.disk ≡ before.faults
+  pub names : disk.loans mid.disk ++ loans mid.salts ≡ before.names

@@ -1,22 +1,24 @@
 // A commit: barred, planned, laid and written.
-ghost use Rattle.std.specs.Prelude.{◌≡◌, ◌+◌, true, length, List, None, IfSome, Contains};
+ghost use Rattle.std.specs.Prelude.{◌≡◌, ◌+◌, true, length, List, None, IfSome, OnOk, OnErr, Err, Contains};
 ghost use Rattle.page_spec.specs.PageMap.{page_at};
 ghost use Rattle.engine_spec.specs.Change.{laid};
 ghost use Rattle.engine_spec.specs.Events.{IsClear};
 ghost use Rattle.engine_spec.specs.declared.pins.Pin.{Pin as Pins};
+ghost use Rattle.engine_spec.specs.declared.commits.CommitFault.TheVariants as fault;
 ghost use Rattle.page_face.specs.Pins.{IsLive};
 ghost use Rattle.page_face.specs.Prepared.{IsFit, change_in, submitted};
 ghost use Rattle.page_face.specs.Calls.{HasCommitted};
 ghost use Rattle.store_spec.specs.Store.{newest_told};
-ghost use Rattle.store.specs.Kept.{kept_of, state_of, IsLiveIn};
+ghost use Rattle.store.specs.Kept.{kept_of, state_of, IsAble, IsLiveIn};
 ghost use Rattle.store.specs.Tells.{store_tells};
 ghost use Rattle.store.specs.Planning.{IsPlanOf, HasPlanRoom};
-ghost use Rattle.store.specs.CommittedFrom.{CommittedFrom, before_of};
+ghost use Rattle.store_spec.specs.Standing.{IsLiveStore};
+ghost use Rattle.store_spec.specs.Steady.{IsSteady};
+ghost use Rattle.store.specs.CommittedFrom.{CommittedFrom, IsReadyFrom, Before, before_of, state_before};
 
 use crate::plan::Plan;
 use crate::store::Store;
 use disk_face::{Disk, Failed, Salts};
-use engine_spec::PageImage;
 use page_face::{CommitFault, Means, Pin, Prepared, Readers, Receipt, Who};
 
 impl<D: Disk, W: Salts, M: Means> Store<D, W, M> {
@@ -85,27 +87,68 @@ impl<D: Disk, W: Salts, M: Means> Store<D, W, M> {
         requires laid { IfSome (newest_told (kept_of self.old) (D.told self.old.disk)) (λ pages. self.old.buf.items ≡ page_at (laid pages (change_in prepared)) 1) }
         ensures { CommittedFrom D.DiskTells W.loans M.Means (before_of D.DiskTells W.loans self.old) readers.now pin.now prepared who result self.new }
     {
-        let _ = pin;
-        match self.ready(readers, prepared.changed.as_slice(), &plan) {
-            Ok(()) => match self.write_frames(prepared.changed.as_slice(), &plan) {
-                Ok(()) => Ok(Receipt::At(self.enter(plan.wrote, prepared, who))),
-                Err(Failed) => Err((CommitFault::Disk, prepared)),
-            },
+        match self.ready(pin, readers, &plan, &prepared, who) {
+            Ok(()) => self.finish(pin, readers, plan, prepared, who),
             Err(Failed) => Err((CommitFault::Disk, prepared)),
         }
     }
 
-    // Goes over to the other log where the rule has it so.
+    // Goes over to the other log where the rule has it so. After `Failed` the commit is refused.
     fn ready(
         &mut self,
+        pin: &Pin,
         readers: &Readers,
-        changed: &[PageImage],
         plan: &Plan,
-    ) -> Result<(), Failed> {
+        prepared: &Prepared<M>,
+        who: Who,
+    ) -> Result<(), Failed>
+        requires live { (pins : List Pins) × IsLiveIn D.DiskTells self.old readers.now pins × Contains pins pin.now }
+        requires fit { IsFit (state_of D.DiskTells self.old readers.now) pin.now prepared.now }
+        requires clear { IsClear (state_of D.DiskTells self.old readers.now) (submitted prepared.now who) }
+        requires plan { IsPlanOf prepared.now.changed plan.now }
+        requires room { HasPlanRoom self.old (length plan.now.order.items + 1) }
+        requires laid { IfSome (newest_told (kept_of self.old) (D.told self.old.disk)) (λ pages. self.old.buf.items ≡ page_at (laid pages (change_in prepared.now)) 1) }
+        ensures ready { OnOk result (IsReadyFrom D.DiskTells W.loans M.Means (before_of D.DiskTells W.loans self.old) readers.now self.new) }
+        ensures room { OnOk result (HasPlanRoom self.new (length plan.now.order.items + 1)) }
+        ensures buf { self.new.buf ≡ self.old.buf }
+        ensures able { IsAble D.DiskTells self.new }
+        ensures failed { OnErr result (CommittedFrom D.DiskTells W.loans M.Means (before_of D.DiskTells W.loans self.old) readers.now pin.now prepared.now who (Err (fault.Disk, prepared.now)) self.new) }
+    {
+        let _ = pin;
+        let _ = who;
         if self.goes_over(readers) {
-            self.go_over(changed, plan)
+            self.go_over(prepared.changed.as_slice(), plan)
         } else {
             Ok(())
+        }
+    }
+
+    // Writes the frames of a commit, and enters it.
+    fn finish(
+        &mut self,
+        pin: &Pin,
+        readers: &Readers,
+        plan: Plan,
+        prepared: Prepared<M>,
+        who: Who,
+    ) -> Result<Receipt, (CommitFault, Prepared<M>)>
+        requires live { (before : Before) × (pins : List Pins) × IsLiveStore before.told before.kept readers.now pins × IsSteady before.told before.kept readers.now pins × Contains pins pin.now
+            × IsReadyFrom D.DiskTells W.loans M.Means before readers.now self.old × IsFit (state_before before readers.now) pin.now prepared
+            × IsClear (state_before before readers.now) (submitted prepared who)
+            × IfSome (newest_told before.kept before.told) (λ pages. self.old.buf.items ≡ page_at (laid pages (change_in prepared)) 1) }
+        requires able { IsAble D.DiskTells self.old }
+        requires plan { IsPlanOf prepared.changed plan }
+        requires room { HasPlanRoom self.old (length plan.order.items + 1) }
+        ensures { (before : Before) (pins : List Pins) → IsLiveStore before.told before.kept readers.now pins → IsSteady before.told before.kept readers.now pins → Contains pins pin.now
+            → IsReadyFrom D.DiskTells W.loans M.Means before readers.now self.old → IsFit (state_before before readers.now) pin.now prepared → IsClear (state_before before readers.now) (submitted prepared who)
+            → IfSome (newest_told before.kept before.told) (λ pages. self.old.buf.items ≡ page_at (laid pages (change_in prepared)) 1)
+            → CommittedFrom D.DiskTells W.loans M.Means before readers.now pin.now prepared who result self.new }
+    {
+        let _ = pin;
+        let _ = readers;
+        match self.write_frames(prepared.changed.as_slice(), &plan) {
+            Ok(()) => Ok(Receipt::At(self.enter(plan.wrote, prepared, who))),
+            Err(Failed) => Err((CommitFault::Disk, prepared)),
         }
     }
 }

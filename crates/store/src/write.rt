@@ -6,7 +6,7 @@ ghost use Rattle.engine_spec.specs.Written.{commit_of};
 ghost use Rattle.laying.specs.Order.{in_order, images_of};
 ghost use Rattle.log_spec.specs.LogHeader.{last_generation};
 ghost use Rattle.log_spec.specs.Frames.{place_behind};
-ghost use Rattle.log_pair.specs.Pair.{current_header, log_of, other_number, next_place};
+ghost use Rattle.log_pair.specs.Pair.{IsPair, current_header, log_of, other_number, next_place};
 ghost use Rattle.log_pair.specs.Appending.{IsReached};
 ghost use Rattle.page_face.specs.Prepared.{submitted};
 ghost use Rattle.wal_index.specs.Index.{log_in, IsAbove, SameOther};
@@ -83,6 +83,7 @@ impl<D: Disk, W: Salts, M: Means> Store<D, W, M> {
         ensures becomes { OnOk result (self.new ≡ record self.old { disk = self.new.disk; pair = self.new.pair }) }
         ensures stops { OnErr result (kept_of self.new ≡ stopped (kept_of self.old) self.new.pair
             (kept_stop self.old.pair.current (next_place self.old.pair) self.old.size (images_of self.old.buf.items changed.now plan.now.order.items))) }
+        ensures legal { IsPair self.new.pair }
         ensures able { IsAble D.DiskTells self.new }
         ensures stays { OnlyWrites D.DiskTells self.old.disk self.new.disk }
         ensures salts { self.new.salts ≡ self.old.salts }

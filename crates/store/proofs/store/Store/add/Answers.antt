@@ -1,0 +1,70 @@
+use Rattle.std.proofs.Common.{◌≡◌, ◌∙◌, ℕ, sym, ap, subst}
+use Rattle.disk_face.specs.Faults.{Rose}
+use Rattle.store.proofs.store.Store.add.Goals as goal
+use Rattle.engine_spec.specs.Events.{IsClear}
+use Rattle.engine_spec.specs.State.{EngineState}
+use Rattle.page_face.specs.Prepared.{IsFit, submitted}
+use Rattle.store.specs.declared.store.Store.{Store}
+use Rattle.store.specs.CommittedFrom.{Before, CommittedFrom}
+use Rattle.store.proofs.Resting.{Rests, rests_again, rests_planned, rests_laid, lives_on, state_same, before_same, no_memory, not_read}
+
+pub returns-in-Err : goal.returns-in-Err
+returns-in-Err g c =
+    no_memory g.D.DiskTells g.W.Salts.loans c.args.readers.now c.args.self.now c.plan.new.self
+    (rests_planned g.D.DiskTells g.W.Salts.loans c.args.self.now c.plan.new.self c.plan.ensures.kept c.plan.ensures.same c.plan.ensures.pages c.plan.ensures.bytes)
+    g.M.Means c.args.pin.now c.args.prepared c.args.who c.requires.live.1.able c.requires.clear
+    (ap (λ (store : Store g.row.D.Denot g.row.W.Denot g.row.M.Denot). g.D.DiskTells.faults store.disk) c.plan.ensures.same)
+
+pub lay-requires-clause-whole : goal.lay-requires-clause-whole
+lay-requires-clause-whole g c =
+    λ k d within. c.requires.fit.whole k d within ∙ sym (ap (λ (store : Store g.row.D.Denot g.row.W.Denot g.row.M.Denot). store.page_size) c.plan.ensures.same)
+
+pub write-requires-clause-live : goal.write-requires-clause-live
+write-requires-clause-live g c = (
+  c.requires.live.0,
+  lives_on g.D.DiskTells g.W.Salts.loans c.args.readers.now c.args.self.now c.lay.new.self
+      (rests_again g.D.DiskTells g.W.Salts.loans c.args.self.now c.plan.new.self c.lay.new.self
+      (rests_planned g.D.DiskTells g.W.Salts.loans c.args.self.now c.plan.new.self c.plan.ensures.kept c.plan.ensures.same c.plan.ensures.pages c.plan.ensures.bytes)
+      (rests_laid g.D.DiskTells g.W.Salts.loans c.plan.new.self c.lay.new.self c.lay.ensures.same c.lay.ensures.size c.lay.ensures.stays))
+      c.requires.live.0 c.requires.live.1,
+  c.requires.live.2,
+)
+
+pub write-requires-clause-fit : goal.write-requires-clause-fit
+write-requires-clause-fit g c =
+    subst (λ (state : EngineState). IsFit state c.args.pin.now c.args.prepared) (sym (
+      state_same g.D.DiskTells g.W.Salts.loans c.args.readers.now c.args.self.now c.lay.new.self
+          (rests_again g.D.DiskTells g.W.Salts.loans c.args.self.now c.plan.new.self c.lay.new.self
+          (rests_planned g.D.DiskTells g.W.Salts.loans c.args.self.now c.plan.new.self c.plan.ensures.kept c.plan.ensures.same c.plan.ensures.pages c.plan.ensures.bytes)
+          (rests_laid g.D.DiskTells g.W.Salts.loans c.plan.new.self c.lay.new.self c.lay.ensures.same c.lay.ensures.size c.lay.ensures.stays))
+          (c.in-Ok-lay.ensures.faults ∙ ap (λ (store : Store g.row.D.Denot g.row.W.Denot g.row.M.Denot). g.D.DiskTells.faults store.disk) c.plan.ensures.same)
+    )) c.requires.fit
+
+pub write-requires-clause-clear : goal.write-requires-clause-clear
+write-requires-clause-clear g c =
+    subst (λ (state : EngineState). IsClear state (submitted c.args.prepared c.args.who)) (sym (
+      state_same g.D.DiskTells g.W.Salts.loans c.args.readers.now c.args.self.now c.lay.new.self
+          (rests_again g.D.DiskTells g.W.Salts.loans c.args.self.now c.plan.new.self c.lay.new.self
+          (rests_planned g.D.DiskTells g.W.Salts.loans c.args.self.now c.plan.new.self c.plan.ensures.kept c.plan.ensures.same c.plan.ensures.pages c.plan.ensures.bytes)
+          (rests_laid g.D.DiskTells g.W.Salts.loans c.plan.new.self c.lay.new.self c.lay.ensures.same c.lay.ensures.size c.lay.ensures.stays))
+          (c.in-Ok-lay.ensures.faults ∙ ap (λ (store : Store g.row.D.Denot g.row.W.Denot g.row.M.Denot). g.D.DiskTells.faults store.disk) c.plan.ensures.same)
+    )) c.requires.clear
+
+pub returns-in-Ok-lay : goal.returns-in-Ok-lay
+returns-in-Ok-lay g c =
+    subst (λ (before : Before). CommittedFrom g.D.DiskTells g.W.Salts.loans g.M.Means before c.args.readers.now c.args.pin.now c.args.prepared c.args.who c.write.result c.write.new.self)
+    (before_same g.D.DiskTells g.W.Salts.loans c.args.readers.now c.args.self.now c.lay.new.self
+    (rests_again g.D.DiskTells g.W.Salts.loans c.args.self.now c.plan.new.self c.lay.new.self
+    (rests_planned g.D.DiskTells g.W.Salts.loans c.args.self.now c.plan.new.self c.plan.ensures.kept c.plan.ensures.same c.plan.ensures.pages c.plan.ensures.bytes)
+    (rests_laid g.D.DiskTells g.W.Salts.loans c.plan.new.self c.lay.new.self c.lay.ensures.same c.lay.ensures.size c.lay.ensures.stays))
+    (c.in-Ok-lay.ensures.faults ∙ ap (λ (store : Store g.row.D.Denot g.row.W.Denot g.row.M.Denot). g.D.DiskTells.faults store.disk) c.plan.ensures.same))
+    c.write.ensures
+
+pub returns-in-Err-lay : goal.returns-in-Err-lay
+returns-in-Err-lay g c =
+    not_read g.D.DiskTells g.W.Salts.loans c.args.readers.now c.args.self.now c.lay.new.self
+    (rests_again g.D.DiskTells g.W.Salts.loans c.args.self.now c.plan.new.self c.lay.new.self
+    (rests_planned g.D.DiskTells g.W.Salts.loans c.args.self.now c.plan.new.self c.plan.ensures.kept c.plan.ensures.same c.plan.ensures.pages c.plan.ensures.bytes)
+    (rests_laid g.D.DiskTells g.W.Salts.loans c.plan.new.self c.lay.new.self c.lay.ensures.same c.lay.ensures.size c.lay.ensures.stays))
+    g.M.Means c.args.pin.now c.args.prepared c.args.who c.requires.live.1.able c.requires.clear
+    (subst (λ (n : ℕ). Rose n (g.D.DiskTells.faults c.lay.new.self.disk)) (ap (λ (store : Store g.row.D.Denot g.row.W.Denot g.row.M.Denot). g.D.DiskTells.faults store.disk) c.plan.ensures.same) c.in-Err-lay.ensures.faults)

@@ -1,0 +1,15 @@
+use Rattle.std.proofs.Common.{◌≡◌, List, ℕ, sym, ap, subst}
+use Rattle.std.specs.Prelude.{IfSome}
+use Rattle.store.proofs.store.Store.write.Goals as goal
+use Rattle.page_spec.specs.PageMap.{page_at}
+use Rattle.engine_spec.specs.Change.{laid}
+use Rattle.page_face.specs.Prepared.{change_in}
+use Rattle.store_spec.specs.Store.{newest_told}
+use Rattle.store.specs.Kept.{kept_of}
+use Rattle.store.specs.CommittedFrom.{before_of}
+
+pub returns-in-Ok : goal.returns-in-Ok
+returns-in-Ok g c =
+    c.finish.ensures (before_of g.D.DiskTells g.W.Salts.loans c.args.self.now) c.requires.live.0 c.requires.live.1.live c.requires.live.1.steady c.requires.live.2 c.in-Ok.ensures.ready c.requires.fit c.requires.clear
+    (subst (λ (items : List ℕ). IfSome (newest_told (kept_of c.args.self.now) (g.D.DiskTells.told c.args.self.now.disk)) (λ pages. items ≡ page_at (laid pages (change_in c.args.prepared)) 1))
+    (sym (λ i. (c.in-Ok.ensures.buf i).items)) c.requires.laid)
