@@ -222,3 +222,4 @@ pub record HasSeen (new_size : ℕ) (files : Option Files) (hot : Option Bool) (
   pub whole : IsWholeSeen seen
   pub seen_is : IfSome files (λ files. IsSeen new_size files seen)
   pub no_fault : IfSome files (λ files. IfSome hot (λ hot. fault_of files hot ≡ None))
+  pub fine : IfSome files (λ files. fault_of files false ≡ None)
