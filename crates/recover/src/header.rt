@@ -59,6 +59,7 @@ fn next_header(front: &Front, log: u8, page_size: u32, generation: u32, salt2: u
     ensures legal { IsLegalFront log (Front.Ours result.header) }
     ensures page_size { result.header.page_size ≡ page_size }
     ensures generation { result.header.generation ≡ generation }
+    ensures salt { result.header.salt1 < 2 ^ 32 }
 {
     NewHeader::sign(&LogHeader {
         big: true,
@@ -131,6 +132,7 @@ pub(crate) fn next_headers<W: Salts>(
     ensures legal { IsLegalFront 1 (Ours result.one) × IsLegalFront 2 (Ours result.two) }
     ensures sizes { (result.one.page_size ≡ page_size) × (result.two.page_size ≡ page_size) }
     ensures generations { result.one.generation ≡ result.two.generation + 1 }
+    ensures salts { (result.one.salt1 < 2 ^ 32) × (result.two.salt1 < 2 ^ 32) }
     ensures loans { W.loans salts.new ≡ W.loans salts.old }
 {
     let even = even_generation(newest_generation(one, two));
@@ -188,6 +190,7 @@ pub(crate) fn first_headers<W: Salts>(
     ensures legal { IsLegalFront 1 (Ours result.commit.header) × IsLegalFront 1 (Ours result.after.one) × IsLegalFront 2 (Ours result.after.two) }
     ensures sizes { (result.commit.header.page_size ≡ page_size) × (result.after.one.page_size ≡ page_size) × (result.after.two.page_size ≡ page_size) }
     ensures generations { result.after.one.generation ≡ result.after.two.generation + 1 }
+    ensures salts { (result.after.one.salt1 < 2 ^ 32) × (result.after.two.salt1 < 2 ^ 32) }
     ensures loans { W.loans salts.new ≡ W.loans salts.old }
 {
     let generation = odd_generation(newest_generation(one, two));
