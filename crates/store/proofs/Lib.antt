@@ -4,3 +4,5 @@ mod Fetched
 mod Buffers
 mod Images
 mod Entering
+mod Beginning
+mod Settled

@@ -9,6 +9,8 @@ mod fetch;
 mod halt;
 mod kept_pages;
 mod lay;
+mod open;
+mod open_fault;
 mod plan;
 mod room;
 mod store;
@@ -16,5 +18,6 @@ mod write;
 
 pub use commits::{Commits, Wrote};
 pub use kept_pages::KeptPages;
+pub use open_fault::OpenFault;
 pub use plan::Plan;
 pub use store::{Halt, Store};
