@@ -1,5 +1,5 @@
 -- A store as it begins is whole, and stands on its disk.
-use Rattle.std.proofs.Common.{◌≡◌, ◌⊎◌, inl, inr, ℕ, zero, suc, ◌+◌, ◌-◌, ◌*◌, ◌%◌, ◌≤◌, ◌<◌, Bool, true, false, ◌||◌, List, [], ◌∷◌, length, take, drop, Option, Some, None, refl, sym, ◌∙◌, ap, subst, arith, length-drop}
+use Rattle.std.proofs.Common.{◌≡◌, ◌⊎◌, inl, inr, ℕ, zero, suc, ◌+◌, ◌-◌, ◌*◌, ◌%◌, ◌^◌, ◌≤◌, ◌<◌, Bool, true, false, ◌||◌, List, [], ◌∷◌, length, take, drop, Option, Some, None, refl, sym, ◌∙◌, ap, subst, arith, length-drop}
 use Rattle.std.specs.Prelude.{All, Contains, nat_eq, IfSome, slice_index_or, ◌↔◌}
 use Rattle.std.proofs.lemmas.Bool.Decides.{nat_tests}
 use Rattle.std.proofs.lemmas.List.{length-take}
@@ -122,7 +122,7 @@ module _ (bytes used most : ℕ) (may : MayBegin bytes used most) (pair : PairVi
     counted = omega arith;
   }
 
-  none_first : All (λ commit. Contains commit.wrote 1) []
+  none_first : All (λ (commit : Commit). Contains commit.wrote 1) []
   none_first = All-nil (λ (commit : Commit). Contains commit.wrote 1)
 
   no_pages : All (λ page. (1 ≤ page) × (page ≤ page_count)) []

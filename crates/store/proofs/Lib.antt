@@ -6,3 +6,5 @@ mod Images
 mod Entering
 mod Beginning
 mod Settled
+mod OpenLaws
+mod Opened

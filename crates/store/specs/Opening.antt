@@ -1,11 +1,12 @@
 -- What an opening asks of a database's files, and how a store begins.
-use Rattle.std.specs.Prelude.{◌≡◌, ◌⊎◌, ℕ, ◌*◌, ◌≤◌, ◌==◌, max, Bool, true, false, ◌&&◌, ◌||◌, not, if◌then◌else◌, List, [], length, slice_index, Option, Some, None, IfSome, Result, Ok, Err}
+use Rattle.std.specs.Prelude.{◌≡◌, ◌⊎◌, ℕ, ◌+◌, ◌*◌, ◌≤◌, ◌==◌, max, Bool, true, false, ◌&&◌, ◌||◌, not, if◌then◌else◌, List, [], length, slice_index, Option, Some, None, IfSome, Result, Ok, Err}
 use Rattle.disk_face.specs.declared.tells.DiskTells.{Ghosts as DiskGhosts}
 use Rattle.disk_face.specs.Faults.{Rose}
 use Rattle.disk_face.specs.Files.{Files}
 use Rattle.disk_face.specs.Steps.{History, reads}
-use Rattle.page_spec.specs.Header.{pages_in}
+use Rattle.page_spec.specs.Header.{fields_of, pages_in}
 use Rattle.page_spec.specs.PageMap.{PageMap, page_at}
+use Rattle.crash_spec.specs.Opening.{Opening}
 use Rattle.crash_spec.specs.Recovered.{recovered}
 use Rattle.opening_spec.specs.Found.{OpeningView}
 use Rattle.engine_spec.specs.declared.pins.Readers.{Readers}
@@ -17,7 +18,10 @@ use Rattle.recover.specs.Ready.{IsNewPair, IsReady}
 use Rattle.recover.specs.Seeing.{SeenView, is_new_in, is_ours_in, size_in, first_in, two_in, map_found, fault_of, files_told, RefusesLook}
 use Rattle.recover.specs.declared.setup.StoreKind.TheVariants.{Pages}
 use Rattle.recover.specs.declared.seen.LookFault.{LookFault}
+use Rattle.recover.specs.declared.seen.LookFault.TheVariants as look
 use Rattle.store_spec.specs.Store.{StoreData}
+use Rattle.store_spec.specs.Standing.{StandsOn}
+use Rattle.store.specs.Kept.{kept_of}
 use Rattle.store.specs.declared.open_fault.OpenFault.{OpenFault}
 use Rattle.store.specs.declared.open_fault.OpenFault.TheVariants.{Look, NotPages, Disk, Memory}
 use Rattle.store.specs.declared.store.Store.{Store}
@@ -96,10 +100,14 @@ abbrev pub disk_of : {D W M : Type 0} → Result (Store D W M) (OpenFault × D) 
 disk_of (Ok store) = store.disk
 disk_of (Err (fault, disk)) = disk
 
--- where a store was answered, its pair is ready
+-- where a store was answered, its pair is ready, and it stands on the disk
 abbrev pub ReadyAs : {D W M : Type 0} → Result (Store D W M) (OpenFault × D) → OpeningView → PageMap → History → Type 0
 ReadyAs (Ok store) view later told = IsReady view later store.pair told
 ReadyAs (Err refused) view later told = Unit {0}
+
+abbrev pub StandsAs : {D W M : Type 0} → Result (Store D W M) (OpenFault × D) → Opening → History → Type 0
+StandsAs (Ok store) opening told = StandsOn opening (kept_of store) told
+StandsAs (Err refused) opening told = Unit {0}
 
 -- An opening's writes failed, or memory was wanting before them.
 abbrev pub FailsToSettle : (before after : ℕ) → (old new : Option History) → OpenFault → Type 0
@@ -107,3 +115,35 @@ FailsToSettle before after old new (Look why) = ⊥
 FailsToSettle before after old new (NotPages pages byte) = ⊥
 FailsToSettle before after old new Disk = Rose before after
 FailsToSettle before after old new Memory = (new ≡ old) × (after ≡ before)
+
+-- a fault of a look at the files, as an opening tells it
+abbrev pub of_look : LookFault → OpenFault
+of_look look.Disk = Disk
+of_look look.Memory = Memory
+of_look why = Look why
+
+-- the fault is one of the files, or of the journal
+abbrev pub IsOfFiles : LookFault → Type 0
+IsOfFiles look.Disk = ⊥
+IsOfFiles look.Memory = ⊥
+IsOfFiles why = Unit {0}
+
+-- An opening was refused. Before it wrote anything where the files show why, each fault exactly where it is the first one, or memory was wanting; and a
+-- disk has failed only where its count rose.
+abbrev pub RefusesOpen : (before after : ℕ) → (old new : Option History) → (hot : Option Bool) → OpenFault → Type 0
+RefusesOpen before after old new hot (Look why) = IsOfFiles why × RefusesLook before after (files_told old) hot why × (new ≡ old) × (after ≡ before)
+RefusesOpen before after old new hot (NotPages pages byte) =
+    IfSome old (λ told. (fault_of (reads told) false ≡ None) × (pages_fault (reads told) ≡ Some (NotPages pages byte))) × (new ≡ old) × (after ≡ before)
+RefusesOpen before after old new hot Disk = Rose before after
+RefusesOpen before after old new hot Memory = (new ≡ old) × (after ≡ before)
+
+-- The files, beside a journal that answers so, are opened: nothing bars it.
+pub record AreOpened (hot : Option Bool) (files : Files) : Type 0 where
+  pub asked : IfSome hot (λ hot. fault_of files hot ≡ None)
+  pub fine : fault_of files false ≡ None
+  pub pages : pages_fault files ≡ None
+
+-- a store has the sizes of these files, where a new one gets this page size
+pub record HasSizesOf (new_size : ℕ) (files : Files) (kept : StoreData) : Type 0 where
+  pub page_size : kept.page_size ≡ size_opened new_size files
+  pub usable : kept.page_size ≡ kept.usable + (if is_new_in files then 0 else (fields_of (first_in files)).reserved)

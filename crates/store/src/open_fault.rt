@@ -1,6 +1,6 @@
 // Why a database isn't opened as a store of pages.
 ghost use Rattle.std.specs.Prelude.{◌≡◌, ◌<◌, length};
-ghost use Rattle.store.specs.Opening.{fault_seen};
+ghost use Rattle.store.specs.Opening.{fault_seen, of_look};
 
 use recover::{LookFault, Seen};
 use thiserror::Error;
@@ -41,5 +41,16 @@ pub(crate) fn pages_fault(seen: &Seen) -> Option<OpenFault>
         Some(OpenFault::NotPages { pages: named, byte })
     } else {
         None
+    }
+}
+
+/// A fault of a look at the files, as an opening tells it.
+pub(crate) fn of_look(why: LookFault) -> OpenFault
+    ensures { result ≡ of_look why }
+{
+    match why {
+        LookFault::Disk => OpenFault::Disk,
+        LookFault::Memory => OpenFault::Memory,
+        other => OpenFault::Look(other),
     }
 }
