@@ -128,19 +128,23 @@ IsOfFiles look.Disk = ⊥
 IsOfFiles look.Memory = ⊥
 IsOfFiles why = Unit {0}
 
+-- A look at these files, beside a journal that answers so, finds no fault.
+pub record AreFine (hot : Option Bool) (files : Files) : Type 0 where
+  pub asked : IfSome hot (λ hot. fault_of files hot ≡ None)
+  pub fine : fault_of files false ≡ None
+
 -- An opening was refused. Before it wrote anything where the files show why, each fault exactly where it is the first one, or memory was wanting; and a
 -- disk has failed only where its count rose.
 abbrev pub RefusesOpen : (before after : ℕ) → (old new : Option History) → (hot : Option Bool) → OpenFault → Type 0
 RefusesOpen before after old new hot (Look why) = IsOfFiles why × RefusesLook before after (files_told old) hot why × (new ≡ old) × (after ≡ before)
 RefusesOpen before after old new hot (NotPages pages byte) =
-    IfSome old (λ told. (fault_of (reads told) false ≡ None) × (pages_fault (reads told) ≡ Some (NotPages pages byte))) × (new ≡ old) × (after ≡ before)
+    IfSome old (λ told. AreFine hot (reads told) × (pages_fault (reads told) ≡ Some (NotPages pages byte))) × (new ≡ old) × (after ≡ before)
 RefusesOpen before after old new hot Disk = Rose before after
 RefusesOpen before after old new hot Memory = (new ≡ old) × (after ≡ before)
 
--- The files, beside a journal that answers so, are opened: nothing bars it.
+-- And they are opened: nothing bars it.
 pub record AreOpened (hot : Option Bool) (files : Files) : Type 0 where
-  pub asked : IfSome hot (λ hot. fault_of files hot ≡ None)
-  pub fine : fault_of files false ≡ None
+  pub look : AreFine hot files
   pub pages : pages_fault files ≡ None
 
 -- a store has the sizes of these files, where a new one gets this page size
