@@ -164,12 +164,12 @@ module _ (bytes used most : ℕ) (may : MayBegin bytes used most) (pair : PairVi
     pending = [];
     later = later;
     there = record {
-        current = on_has view.opening told Log1 kept.pair.one.header [] [] r.settled.log1.on;
-        other = on_has view.opening told Log2 kept.pair.two.header [] [] r.settled.log2.on;
-        current_pages = refl;
-        other_pages = refl;
-        copied = λ number from or. refl;
-      };
+      current = on_has view.opening told Log1 kept.pair.one.header [] [] r.settled.log1.on;
+      other = on_has view.opening told Log2 kept.pair.two.header [] [] r.settled.log2.on;
+      current_pages = refl;
+      other_pages = refl;
+      copied = λ number from or. refl;
+    };
     holds = holds;
     running = record { none = refl; stands = r.stands; whole = λ place inside. r.settled.log1.sure place };
     other_whole = λ place inside. r.settled.log2.sure place;
@@ -192,15 +192,15 @@ module _ (bytes used most : ℕ) (may : MayBegin bytes used most) (pair : PairVi
         most2 = r.settled.two.most;
         few = (r.settled.last1.few, omega (arith, r.settled.last2.few, new.newer));
         log1 = record {
-            only = r.settled.written.log1.only;
-            behind = subst (λ (salt : ℕ). AreBehind (known_pieces view.opening told) Log1 salt r.settled.one.most) (sym r.settled.last1.salt) r.settled.written.log1.behind;
-            ours = r.settled.written.log1.ours;
-          };
+          only = r.settled.written.log1.only;
+          behind = subst (λ (salt : ℕ). AreBehind (known_pieces view.opening told) Log1 salt r.settled.one.most) (sym r.settled.last1.salt) r.settled.written.log1.behind;
+          ours = r.settled.written.log1.ours;
+        };
         log2 = record {
-            only = r.settled.written.log2.only;
-            behind = subst (λ (salt : ℕ). AreBehind (known_pieces view.opening told) Log2 salt r.settled.two.most) (sym r.settled.last2.salt) r.settled.written.log2.behind;
-            ours = r.settled.written.log2.ours;
-          };
+          only = r.settled.written.log2.only;
+          behind = subst (λ (salt : ℕ). AreBehind (known_pieces view.opening told) Log2 salt r.settled.two.most) (sym r.settled.last2.salt) r.settled.written.log2.behind;
+          ours = r.settled.written.log2.ours;
+        };
       }
 
   pub first_opened : (view : OpeningView) (later : PageMap) (told : Option History) → view.size ≡ bytes → Since view.opening.start (IsReady view later kept.pair) told

@@ -1,6 +1,6 @@
-use Rattle.std.proofs.Common.{◌≡◌, ◌∙◌, sym, ap, subst, Some, true, false}
+use Rattle.std.proofs.Common.{◌∙◌, sym}
 use Rattle.recover.specs.Ready.{IsReady}
-use Rattle.disk_face.specs.Steps.{History, reads}
+use Rattle.disk_face.specs.Steps.{reads}
 use Rattle.store.specs.Kept.{kept_of}
 use Rattle.store.specs.Opening.{map_opened, size_opened}
 use Rattle.store.proofs.OpenLaws.{whole_of, may_begin, live_of, newest_of, stands_of, failed_of, quiet}
