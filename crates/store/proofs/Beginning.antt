@@ -19,6 +19,9 @@ use Rattle.engine_spec.specs.declared.commits.Commit.{Commit}
 use Rattle.engine_spec.specs.declared.pins.Pin.{Pin}
 use Rattle.engine_spec.specs.declared.pins.Readers.{Readers}
 use Rattle.engine_spec.specs.Good.{HasSizes}
+use Rattle.engine_spec.specs.History.{statements_of}
+use Rattle.log_spec.specs.Accept.{Frame}
+use Rattle.std.proofs.Math.Seq.{take-nil}
 use Rattle.wal_frames.specs.declared.header.LogHeader.{LogHeader}
 use Rattle.wal_frames.specs.Front.{fields_for}
 use Rattle.log_pair.specs.Pair.{PairView, IsPair, new_pair}
@@ -27,9 +30,9 @@ use Rattle.recover.specs.Ready.{IsReady, IsNewPair}
 use Rattle.recover.proofs.Begun.{ready_holds}
 use Rattle.recover.proofs.NewPages.{one_of}
 use Rattle.recover.proofs.SeenFiles.{legal_size}
-use Rattle.store_spec.specs.Store.{StoreData, two_logs, newest_told}
-use Rattle.store_spec.specs.Pins.{PinHolds}
-use Rattle.store_spec.specs.Standing.{IsCountedLog, IsWholeStore, IsReadable, AreFronts, IsStoreOn, StandsOn, IsOpenedAt, IsLiveStore}
+use Rattle.store_spec.specs.Store.{StoreData, two_logs, newest_told, since_of}
+use Rattle.store_spec.specs.Pins.{PinHolds, mark_at}
+use Rattle.store_spec.specs.Standing.{IsCountedLog, IsWholeStore, IsReadable, AreFronts, IsStoreOn, StandsOn, IsOpenedAt, IsLiveStore, StandsFrom}
 use Rattle.store_spec.specs.Steady.{IsSteady}
 use Rattle.store_spec.proofs.NamedLaws.{named_bare}
 use Rattle.store_spec.proofs.Named.{named_none}
@@ -283,3 +286,20 @@ module _ (bytes used most : ℕ) (may : MayBegin bytes used most) (pair : PairVi
     begun = λ none. inr refl;
     smaller = All-nil (λ (pin : Pin). pin.size ≤ page_count);
   }
+
+  -- it stands for a run from its own map
+  pub first_from : (sound : PageMap → Type 0) (leads : PageMap → List (List ℕ) → PageMap → Type 0) (first : PageMap) (view : OpeningView) (later : PageMap) (told : Option History)
+      → Since view.opening.start (IsReady view later kept.pair) told → IfSome told (λ told. (first ≡ later) × sound first × leads first [] first)
+      → StandsFrom sound leads first told kept no_readers
+  first_from sound leads first view later None ready is = record { snaps = tt; newest = tt; fronts = tt; older = λ some. tt }
+  first_from sound leads first view later (Some told) ready (same, good, rests) = record {
+    snaps = tt;
+    newest = holds;
+    fronts = λ n front.
+        subst (λ (frames : List Frame). sound (overlaid (reads told).main [] frames) × leads first (statements_of (take n [])) (overlaid (reads told).main [] frames)) (sym (take-nil (mark_at [] (since_of kept) n)))
+        (subst (λ (commits : List Commit). sound (overlaid (reads told).main [] []) × leads first (statements_of commits) (overlaid (reads told).main [] [])) (sym (take-nil n)) holds);
+    older = λ some. absurd (omega arith);
+  }
+    where
+      holds : sound (overlaid (reads told).main [] []) × leads first [] (overlaid (reads told).main [] [])
+      holds = subst (λ (map : PageMap). sound map × leads first [] map) (same ∙ sym (main_is view later told ready).0) (good, rests)

@@ -35,12 +35,12 @@ use Rattle.recover.proofs.Readying.{nothing_done}
 use Rattle.recover.proofs.SeenFiles.{legal_size, new_is}
 use Rattle.recover.proofs.SeenPages.{seen_pages}
 use Rattle.store_spec.specs.Store.{StoreData, newest_told}
-use Rattle.store_spec.specs.Standing.{IsWholeStore, IsLiveStore, StandsOn}
+use Rattle.store_spec.specs.Standing.{IsWholeStore, IsLiveStore, StandsOn, StandsFrom}
 use Rattle.store_spec.specs.Steady.{IsSteady}
 use Rattle.store.specs.declared.open_fault.OpenFault.{OpenFault}
 use Rattle.store.specs.declared.open_fault.OpenFault.TheVariants.{NotPages}
 use Rattle.store.specs.Opening.{IsBeginning, MaySettle, are_pages, wrong_count, fault_by, fault_seen, map_opened, size_opened, no_readers}
-use Rattle.store.proofs.Beginning.{MayBegin, first_kept, kept_is, first_whole, first_stands, first_newest, first_live, first_steady}
+use Rattle.store.proofs.Beginning.{MayBegin, first_kept, kept_is, first_whole, first_stands, first_newest, first_live, first_steady, first_from}
 
 pub whole_of : (bytes used most : ℕ) (kept : StoreData) → IsBeginning bytes used most kept → MayBegin bytes used most → IsWholeStore kept
 whole_of bytes used most kept b may = subst IsWholeStore (sym (kept_is bytes used most kept b)) (first_whole bytes used most may kept.pair b.pair)
@@ -299,9 +299,9 @@ module _ (new_size most : ℕ) (seen : SeenView) (whole : IsWholeSeen seen) (new
       subst (IsLiveAs told) (sym is_first)
       (first_live seen.page_size seen.usable most may kept.pair b.pair view later told sized sizes ready, first_steady seen.page_size seen.usable most may kept.pair b.pair view later told sized ready)
 
-  some_sizes : (later : PageMap) (told : Option History) → HasSizes later 16 seen.page_size → IfSome told (λ told. HasSizes later 16 seen.page_size)
-  some_sizes later None sizes = tt
-  some_sizes later (Some told) sizes = sizes
+  some_sizes : (after : PageMap) (told : Option History) → HasSizes after 16 seen.page_size → IfSome told (λ told. HasSizes after 16 seen.page_size)
+  some_sizes after None sizes = tt
+  some_sizes after (Some told) sizes = sizes
 
   pub live_of : (old new : Option History) → IfSome old (λ told. IsSeen new_size (reads told) seen) → IfSome old (λ told. fault_of (reads told) false ≡ None) → IfSome old (λ told. MaySettle (reads told))
       → Says Ready seen old new → IsLiveAs new kept
@@ -329,6 +329,36 @@ module _ (new_size most : ℕ) (seen : SeenView) (whole : IsWholeSeen seen) (new
       let after = later new_size seen whole new_sized none told s in
       ap (λ (kept : StoreData). newest_told kept (Some new)) is_first
       ∙ ap (λ (map : PageMap). Some map) (first_newest seen.page_size seen.usable most may kept.pair b.pair view after (Some new) (ready_first view after (Some new) passes.holds) ∙ sym (map_is new_size seen whole new_sized none told s))
+
+  -- and the run that it stands for
+  pub from_of : (sound : PageMap → Type 0) (leads : PageMap → List (List ℕ) → PageMap → Type 0) (first : PageMap) (old new : Option History)
+      → IfSome old (λ told. IsSeen new_size (reads told) seen) → IfSome old (λ told. fault_of (reads told) false ≡ None) → Says Ready seen old new
+      → (sound first → leads first [] first) → IfSome old (λ told. MaySettle (reads told) × (first ≡ map_opened new_size (reads told)) × sound first)
+      → StandsFrom sound leads first new kept no_readers
+  from_of sound leads first None None s fine says rests is =
+      subst (λ (k : StoreData). StandsFrom sound leads first None k no_readers) (sym is_first)
+      (first_from seen.page_size seen.usable most may kept.pair b.pair sound leads first nowhere [] None tt tt)
+    where
+      nowhere : OpeningView
+      nowhere = record {
+        opening = record { start = record { first = record { main = []; log1 = []; log2 = [] }; steps = [] }; before = []; pieces = [] };
+        size = seen.page_size;
+        long = 0;
+        map = [];
+      }
+  from_of sound leads first None (Some new) s fine says rests is =
+      absurd (says (record { opening = record { start = new; before = []; pieces = [] }; size = seen.page_size; long = 0; map = [] }) (record { frames = []; salt = 0; most = 0 }) (record { frames = []; salt = 0; most = 0 }) tt tt).each_moment
+  from_of sound leads first (Some told) new s fine says rests (settle, same, good) =
+      let passes = sure_says new_size seen whole new_sized none told s Ready new fine settle says in
+      let view = sure_view new_size seen whole new_sized none told s in
+      let after = later new_size seen whole new_sized none told s in
+      subst (λ (k : StoreData). StandsFrom sound leads first new k no_readers) (sym is_first)
+      (first_from seen.page_size seen.usable most may kept.pair b.pair sound leads first view after new (ready_first view after new passes.holds)
+      (said new (same ∙ map_is new_size seen whole new_sized none told s, good, rests good)))
+    where
+      said : {X : Type 0} (told : Option History) → X → IfSome told (λ told. X)
+      said None x = tt
+      said (Some told) x = x
 
   -- and since the opening
   pub stands_of : (told : History) (old new : Option History) → old ≡ Some told → IfSome old (λ told. IsSeen new_size (reads told) seen) → MayOpen (size_opened new_size (reads told)) told → MaySettle (reads told)

@@ -3,6 +3,7 @@ ghost use Rattle.std.specs.Prelude.{◌≡◌, ◌≤◌, ◌<◌, true, false, 
 ghost use Rattle.disk_face.specs.Stays.{OnlyWrites};
 ghost use Rattle.disk_face.specs.Steps.{History, reads};
 ghost use Rattle.page_spec.specs.Header.{is_page_size};
+ghost use Rattle.page_spec.specs.PageMap.{PageMap};
 ghost use Rattle.crash_spec.specs.Opening.{Since, opening_at};
 ghost use Rattle.crash_spec.specs.Passes.{Passes};
 ghost use Rattle.opening_spec.specs.Found.{FoundLog, OpeningView};
@@ -12,7 +13,7 @@ ghost use Rattle.recover.specs.Ready.{IsViewOf, LeavesSettling, first_map};
 ghost use Rattle.recover.specs.Seeing.{IsSeen, IsWholeSeen};
 ghost use Rattle.recover.specs.declared.setup.StoreKind.TheVariants.{Pages};
 ghost use Rattle.store_spec.specs.Store.{newest_told};
-ghost use Rattle.store_spec.specs.Standing.{IsWholeStore};
+ghost use Rattle.store_spec.specs.Standing.{IsWholeStore, StandsFrom};
 ghost use Rattle.store.specs.Kept.{kept_of, IsAble, IsLiveIn};
 ghost use Rattle.store.specs.Opening.{AreOpened, HasSizesOf, IsBeginning, MaySettle, ReadyAs, StandsAs, FailsToSettle, RefusesOpen, disk_of, map_opened, no_readers, size_opened};
 
@@ -114,6 +115,8 @@ impl<D: Disk, W: Salts + Drop, M: Means> Store<D, W, M> {
         ensures sizes { IfOk result (λ store. IfSome (D.told disk) (λ told. HasSizesOf setup.page_size (reads told) (kept_of store))) }
         ensures live { IfOk result (λ store. IfSome (D.told disk) (λ told. MaySettle (reads told)) → IsLiveIn D.DiskTells store no_readers []) }
         ensures newest { IfOk result (λ store. IfSome (D.told disk) (λ told. MaySettle (reads told) → newest_told (kept_of store) (D.told store.disk) ≡ Some (map_opened setup.page_size (reads told)))) }
+        ensures runs { IfOk result (λ store. (first : PageMap) → IfSome (D.told disk) (λ told. MaySettle (reads told) × (first ≡ map_opened setup.page_size (reads told)) × M.sound first first)
+            → StandsFrom (M.sound first) (M.leads first) first (D.told store.disk) (kept_of store) no_readers) }
         ensures moments { (told : History) → D.told disk ≡ Some told → MayOpen (size_opened setup.page_size (reads told)) told → MaySettle (reads told)
             → Passes (opening_at told) (LeavesSettling (view_at (size_opened setup.page_size (reads told)) told) (map_opened setup.page_size (reads told))) (StandsAs result (opening_at told)) (D.told disk) (D.told (disk_of result)) }
         ensures opened { IfOk result (λ store. IfSome (D.told disk) (λ told. AreOpened (D.journal_answer disk) (reads told))) }
