@@ -331,13 +331,13 @@ module _ (new_size most : ℕ) (seen : SeenView) (whole : IsWholeSeen seen) (new
       ∙ ap (λ (map : PageMap). Some map) (first_newest seen.page_size seen.usable most may kept.pair b.pair view after (Some new) (ready_first view after (Some new) passes.holds) ∙ sym (map_is new_size seen whole new_sized none told s))
 
   -- and the run that it stands for
-  pub from_of : (sound : PageMap → Type 0) (leads : PageMap → List (List ℕ) → PageMap → Type 0) (first : PageMap) (old new : Option History)
+  pub from_of : (sound : PageMap → Type 0) (leads : PageMap → List (List ℕ) → PageMap → Type 0) (origin : PageMap) (old new : Option History)
       → IfSome old (λ told. IsSeen new_size (reads told) seen) → IfSome old (λ told. fault_of (reads told) false ≡ None) → Says Ready seen old new
-      → (sound first → leads first [] first) → IfSome old (λ told. MaySettle (reads told) × (first ≡ map_opened new_size (reads told)) × sound first)
-      → StandsFrom sound leads first new kept no_readers
-  from_of sound leads first None None s fine says rests is =
-      subst (λ (k : StoreData). StandsFrom sound leads first None k no_readers) (sym is_first)
-      (first_from seen.page_size seen.usable most may kept.pair b.pair sound leads first nowhere [] None tt tt)
+      → (sound origin → leads origin [] origin) → IfSome old (λ told. MaySettle (reads told) × (origin ≡ map_opened new_size (reads told)) × sound origin)
+      → StandsFrom sound leads origin new kept no_readers
+  from_of sound leads origin None None s fine says rests is =
+      subst (λ (k : StoreData). StandsFrom sound leads origin None k no_readers) (sym is_first)
+      (first_from seen.page_size seen.usable most may kept.pair b.pair sound leads origin nowhere [] None tt tt)
     where
       nowhere : OpeningView
       nowhere = record {
@@ -346,14 +346,14 @@ module _ (new_size most : ℕ) (seen : SeenView) (whole : IsWholeSeen seen) (new
         long = 0;
         map = [];
       }
-  from_of sound leads first None (Some new) s fine says rests is =
+  from_of sound leads origin None (Some new) s fine says rests is =
       absurd (says (record { opening = record { start = new; before = []; pieces = [] }; size = seen.page_size; long = 0; map = [] }) (record { frames = []; salt = 0; most = 0 }) (record { frames = []; salt = 0; most = 0 }) tt tt).each_moment
-  from_of sound leads first (Some told) new s fine says rests (settle, same, good) =
+  from_of sound leads origin (Some told) new s fine says rests (settle, same, good) =
       let passes = sure_says new_size seen whole new_sized none told s Ready new fine settle says in
       let view = sure_view new_size seen whole new_sized none told s in
       let after = later new_size seen whole new_sized none told s in
-      subst (λ (k : StoreData). StandsFrom sound leads first new k no_readers) (sym is_first)
-      (first_from seen.page_size seen.usable most may kept.pair b.pair sound leads first view after new (ready_first view after new passes.holds)
+      subst (λ (k : StoreData). StandsFrom sound leads origin new k no_readers) (sym is_first)
+      (first_from seen.page_size seen.usable most may kept.pair b.pair sound leads origin view after new (ready_first view after new passes.holds)
       (said new (same ∙ map_is new_size seen whole new_sized none told s, good, rests good)))
     where
       said : {X : Type 0} (told : Option History) → X → IfSome told (λ told. X)
