@@ -17,8 +17,8 @@ use Rattle.crash_spec.specs.Passes.{Passes}
 use Rattle.crash_spec.specs.Store.{HoldsStore, MaySwitch}
 use Rattle.crash_spec.proofs.Passing.{passes_join, passes_weaker}
 use Rattle.crash_spec.proofs.Salts.{next_is_fresh}
-use Rattle.opening_spec.specs.Found.{OpeningView, FoundLog, IsNextHeader, found_log, one_after, two_after}
-use Rattle.opening_spec.specs.States.{IsResetting, HasReset, IsSettled, LeavesMap, header1_of, header2_of}
+use Rattle.opening_spec.specs.Found.{OpeningView, FoundLog, IsNextHeader, found_log, next_log, one_after, two_after}
+use Rattle.opening_spec.specs.States.{IsResetting, HasReset, IsSettled, IsLastHeader, LeavesMap, header1_of, header2_of}
 
 pub holds_store : (view : OpeningView) (told : History) (header older : LogFields) (later : PageMap) → IsSettled view header older told
     → older.generation < header.generation → 100 ≤ view.size → page_size_in (fields_of (take 100 (reads told).main)) ≡ view.size
@@ -50,17 +50,18 @@ next_header Main one two bytes is next = absurd is
 next_header Log1 one two bytes is next = next
 next_header Log2 one two bytes is next = next
 
-pub both_settled : (view : OpeningView) (log : File) (here there : LogFields) (one two : FoundLog) (told : History) → IsLog log → HasReset view (other_of log) there one two (Some here) told
-    → IsSettled view (header1_of log here there) (header2_of log here there) told
-both_settled view Main here there one two told is has = absurd is
-both_settled view Log1 here there one two told is has = record { one = one; two = next_two; written = has.written; log1 = has.other; log2 = has.ready }
-  where
-    next_two : FoundLog
-    next_two = two_after Log2 two
-both_settled view Log2 here there one two told is has = record { one = next_one; two = two; written = has.written; log1 = has.ready; log2 = has.other }
-  where
-    next_one : FoundLog
-    next_one = one_after Log1 one
+-- a log's next header is its last one then
+last_is : (log : File) (has : FoundLog) (bytes : List ℕ) → IsNextHeader log has bytes → IsLastHeader (next_log has) (log_fields bytes)
+last_is log has bytes next = record { salt = next.salt; few = next.risen }
+
+pub both_settled : (view : OpeningView) (log : File) (here there : List ℕ) (one two : FoundLog) (told : History) → IsNextHeader log (found_log log one two) here → IsNextHeader (other_of log) (found_log (other_of log) one two) there
+    → HasReset view (other_of log) (log_fields there) (one_after log one) (two_after log two) (Some (log_fields here)) told
+    → IsSettled view (header1_of log (log_fields here) (log_fields there)) (header2_of log (log_fields here) (log_fields there)) told
+both_settled view Main here there one two told next after has = absurd next.is_log
+both_settled view Log1 here there one two told next after has =
+    record { one = next_log one; two = next_log two; last1 = last_is Log1 one here next; last2 = last_is Log2 two there after; written = has.written; log1 = has.other; log2 = has.ready }
+both_settled view Log2 here there one two told next after has =
+    record { one = next_log one; two = next_log two; last1 = last_is Log1 one there after; last2 = last_is Log2 two here next; written = has.written; log1 = has.ready; log2 = has.other }
 
 module _ (view : OpeningView) (log : File) (one two : FoundLog) (here there : List ℕ) (next : IsNextHeader log (found_log log one two) here) where
   abbrev First : History → Type 0
@@ -73,12 +74,12 @@ module _ (view : OpeningView) (log : File) (one two : FoundLog) (here there : Li
   since_next None h = tt
   since_next (Some told) (since, is, has) = (since, is, next_resetting view log (log_fields here) one two _ next.is_log has)
 
-  pub reset_both : (old mid new : Option History) → Passes view.opening (LeavesMap view) First old mid
+  pub reset_both : IsNextHeader (other_of log) (found_log (other_of log) one two) there → (old mid new : Option History) → Passes view.opening (LeavesMap view) First old mid
       → (Since view.opening.start (IsResetting view (other_of log) (one_after log one) (two_after log two) (Some (log_fields here))) mid → Passes view.opening (LeavesMap view) Second mid new)
       → Passes view.opening (LeavesMap view) (IsSettled view (header1_of log (log_fields here) (log_fields there)) (header2_of log (log_fields here) (log_fields there))) old new
-  reset_both old mid new first second =
+  reset_both after old mid new first second =
       passes_weaker view.opening (LeavesMap view) (LeavesMap view) Second (IsSettled view (header1_of log (log_fields here) (log_fields there)) (header2_of log (log_fields here) (log_fields there)))
-      (λ told image leaves. leaves) (λ told has. both_settled view log (log_fields here) (log_fields there) _ _ told next.is_log has) old new
+      (λ told image leaves. leaves) (λ told has. both_settled view log here there one two told next after has) old new
       (passes_join view.opening (LeavesMap view) First Second old mid new first (second (since_next mid first.holds)))
 
   pub second_not : (old mid new : Option History) → Passes view.opening (LeavesMap view) First old mid

@@ -1,5 +1,5 @@
 -- What an opening finds: in each log its frames and its last first salt, and the map that these make over Main.
-use Rattle.std.specs.Prelude.{◌≡◌, ◌⊎◌, ℕ, ◌+◌, ◌*◌, ◌%◌, ◌^◌, ◌<◌, max, nat_lt, if◌then◌else◌, List, [], ◌++◌, length, All}
+use Rattle.std.specs.Prelude.{◌≡◌, ◌⊎◌, ℕ, ◌+◌, ◌*◌, ◌%◌, ◌^◌, ◌<◌, ◌≤◌, max, nat_lt, if◌then◌else◌, List, [], ◌++◌, length, All}
 use Rattle.disk_face.specs.declared.disk.File.{File}
 use Rattle.disk_face.specs.declared.disk.File.TheVariants.{Main, Log1, Log2}
 use Rattle.disk_face.specs.Files.{Files, content}
@@ -94,13 +94,14 @@ abbrev pub two_after : File → FoundLog → FoundLog
 two_after Log2 two = next_log two
 two_after log two = two
 
--- A header for the log: it is ours, and its first salt is the next one.
+-- A header for the log: it is ours, its first salt is the next one, and its generation is at least the count of headers that the log then got.
 pub record IsNextHeader (log : File) (has : FoundLog) (bytes : List ℕ) : Type 0 where
   pub is_log : IsLog log
   pub long : length bytes ≡ header_size
   pub ours : IsOurs (number_of log) bytes
   pub salt : (log_fields bytes).salt1 ≡ (has.salt + 1) % 2 ^ 32
   pub few : has.most + 1 < 2 ^ 32
+  pub risen : has.most + 1 ≤ (log_fields bytes).generation
 
 -- The log that gets its new header first: it has no frames, or the other log is the newer one.
 pub record IsFirst (files : Files) (log : File) (one two : FoundLog) : Type 0 where

@@ -145,10 +145,17 @@ pub record IsFounding (view : OpeningView) (later : PageMap) (header : LogFields
 abbrev pub LeavesEither : OpeningView → PageMap → History → Files → Type 0
 LeavesEither view later told image = IsWithoutChance view.opening told image → ((recovered image ≡ view.map) ⊎ (recovered image ≡ later)) × NoneForeign image
 
+-- a log's last header is this one: it has the last first salt, and its generation is at least the count of headers that the log got
+pub record IsLastHeader (has : FoundLog) (header : LogFields) : Type 0 where
+  pub salt : header.salt1 ≡ has.salt
+  pub few : has.most ≤ header.generation
+
 -- Fourth state: both logs have new headers, and all is on the medium.
 pub record IsSettled (view : OpeningView) (header older : LogFields) (told : History) : Type 0 where
   pub one : FoundLog
   pub two : FoundLog
+  pub last1 : IsLastHeader one header
+  pub last2 : IsLastHeader two older
   pub written : AreWritten view one two told
   pub log1 : IsReset view Log1 header told
   pub log2 : IsReset view Log2 older told

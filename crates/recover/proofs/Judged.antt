@@ -193,13 +193,18 @@ refused_see told hot looked earlier after HotJournal read legal passed is = absu
 refused_see told hot looked earlier after (ForeignLog file at) read legal passed is = absurd is
 
 pub has_seen : (new_size : ℕ) (told : Option History) (hot : Option Bool) (looked : Looked) (seen : SeenView) → IfSome told (λ told. AreRead (reads told) looked) → IsLegalLook looked
-    → IfSome hot (λ hot. judged looked hot ≡ None) → IsWholeSeen seen → ((files : Files) → AreRead files looked → IsSeen new_size files seen) → ((files : Files) → AreRead files looked → missing_fault files ≡ None)
+    → IfSome hot (λ hot. judged looked hot ≡ None) → judged looked false ≡ None → IsWholeSeen seen → (seen.is_new ≡ true → seen.page_size ≡ new_size) → ((files : Files) → AreRead files looked → IsSeen new_size files seen) → ((files : Files) → AreRead files looked → missing_fault files ≡ None)
     → HasSeen new_size (files_told told) hot seen
-has_seen new_size told hot looked seen read legal passed whole seen_is none = record { whole = whole; seen_is = is told read; no_fault = first told hot read passed }
+has_seen new_size told hot looked seen read legal passed fine whole size seen_is none =
+    record { whole = whole; new = size; seen_is = is told read; no_fault = first told hot read passed; fine = without told read }
   where
     is : (told : Option History) → IfSome told (λ told. AreRead (reads told) looked) → IfSome (files_told told) (λ files. IsSeen new_size files seen)
     is None read = tt
     is (Some told) read = seen_is (reads told) read
+
+    without : (told : Option History) → IfSome told (λ told. AreRead (reads told) looked) → IfSome (files_told told) (λ files. fault_of files false ≡ None)
+    without None read = tt
+    without (Some told) read = judged_none (reads told) looked false read legal fine ∙ none (reads told) read
 
     first : (told : Option History) (hot : Option Bool) → IfSome told (λ told. AreRead (reads told) looked) → IfSome hot (λ hot. judged looked hot ≡ None)
         → IfSome (files_told told) (λ files. IfSome hot (λ hot. fault_of files hot ≡ None))

@@ -20,10 +20,10 @@ pub mod First
 mod FirstPages
 mod Committing
 mod Beginnings
-mod NewPages
+pub mod NewPages
 mod FoundsNew
-mod Readying
+pub mod Readying
 mod Migrating
-mod SeenFiles
+pub mod SeenFiles
 pub mod Begun
 pub mod NewAccepted

@@ -13,7 +13,7 @@ use Rattle.recover.specs.NewPages.{new_count, new_front, new_first_page}
 use Rattle.recover.proofs.NewPages.{first_sized, first_counts}
 
 -- the header of a new database is accepted by the next opening, whatever the file's length
-first_long : (kind : StoreKind) (size : ℕ) → 108 ≤ size → length (new_first_page kind size) ≡ size
+pub first_long : (kind : StoreKind) (size : ℕ) → 108 ≤ size → length (new_first_page kind size) ≡ size
 unfolding new_first_page
 first_long kind size big = by kind
   where

@@ -57,6 +57,8 @@ as_store : (view : OpeningView) (later : PageMap) (main : List ℕ) (header olde
 as_store view later main header older told s = record {
   one = s.one;
   two = s.two;
+  last1 = s.last1;
+  last2 = s.last2;
   written = record {
     log1 = s.written.log1;
     log2 = s.written.log2;
@@ -79,7 +81,7 @@ ResetsBoth ok here there old new =
     → Passes view.opening (LeavesMap view) (WhereDone ok (IsSettled view (header1_of Log2 (log_fields here) (log_fields there)) (header2_of Log2 (log_fields here) (log_fields there)))) old new
 
 next_with : (has : FoundLog) (frames : List Frame) (bytes : List ℕ) → IsNextHeader Log1 has bytes → IsNextHeader Log1 (with_first has frames) bytes
-next_with has frames bytes next = record { is_log = tt; long = next.long; ours = next.ours; salt = next.salt; few = next.few }
+next_with has frames bytes next = record { is_log = tt; long = next.long; ours = next.ours; salt = next.salt; few = next.few; risen = next.risen }
 
 pub resets_later : (ok : Bool) (view : OpeningView) (later : PageMap) (main here there : List ℕ) (one two : FoundLog) (old new : Option History) → ResetsBoth ok here there old new
     → Since view.opening.start (HasFounded view later main one two) old → IsNextHeader Log2 two here → IsNextHeader Log1 one there
@@ -156,7 +158,7 @@ salt_then has header bytes next fields = same (has.salt + 1) header.salt1 (sym n
     same : (n salt : ℕ) → n % 2 ^ 32 ≡ salt → n % 2 ^ 32 ≡ salt % 2 ^ 32
     same n salt is = omega arith
 
-pub room_for : (has : FoundLog) (n : ℕ) → has.most ≡ n → n ≤ 1 → has.most + 1 < 2 ^ 32
+pub room_for : (has : FoundLog) (n : ℕ) → has.most ≡ n → n ≤ 1 → has.most ≤ 1
 room_for has n is few = omega arith
 
 -- one of both logs may be begun anew first

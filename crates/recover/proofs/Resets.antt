@@ -30,8 +30,8 @@ header_passes false view log one two beside bytes next old new h (inr wrote) = h
 
 -- a header that was signed is a next one
 pub next_is : (log : ℕ) (has : FoundLog) (header : LogFields) (bytes : List ℕ) (last : ℕ) → (log ≡ 1) ⊎ (log ≡ 2) → IsHeaderOf log header bytes
-    → has.salt ≡ last % 2 ^ 32 → header.salt1 ≡ (last + 1) % 2 ^ 32 → has.most + 1 < 2 ^ 32 → IsNextHeader (log_file log) has bytes
-next_is log has header bytes last which is same salt few =
+    → has.salt ≡ last % 2 ^ 32 → header.salt1 ≡ (last + 1) % 2 ^ 32 → has.most + 1 < 2 ^ 32 → has.most + 1 ≤ header.generation → IsNextHeader (log_file log) has bytes
+next_is log has header bytes last which is same salt few risen =
     let at = log_is log which in
     record {
       is_log = at.0;
@@ -39,6 +39,7 @@ next_is log has header bytes last which is same salt few =
       ours = subst (λ (n : ℕ). IsOurs n bytes) (sym at.1) is.ours;
       salt = ap (λ (fields : LogFields). fields.salt1) is.told ∙ salt ∙ rest last ∙ ap (λ (n : ℕ). (n + 1) % 2 ^ 32) (sym same);
       few = few;
+      risen = subst (λ (fields : LogFields). has.most + 1 ≤ fields.generation) (sym is.told) risen;
     }
   where
     rest : (n : ℕ) → (n + 1) % 2 ^ 32 ≡ (n % 2 ^ 32 + 1) % 2 ^ 32
@@ -67,3 +68,10 @@ next_odd_is newest room = grind (arith, nat_tests)
 pub first_odd_is : (newest : ℕ) → newest + 3 ≤ last_generation → is_generation 1 (next_odd newest) ≡ true
 unfolding is_generation
 first_odd_is newest room = grind (arith, nat_tests)
+
+-- they are large enough for the second header of this opening
+pub even_room : (newest even : ℕ) → even ≡ next_even newest → 2 ≤ even
+even_room newest even is = omega (arith, is)
+
+pub odd_room : (newest odd : ℕ) → odd ≡ next_odd newest → 1 ≤ odd
+odd_room newest odd is = omega (arith, is)

@@ -138,7 +138,7 @@ module _ (new_size : ℕ) (files : Files) (seen : SeenView) (s : IsSeen new_size
   bare_frames : seen.some_frames ≡ false → ((one_in files).frames ≡ []) × ((two_in files).frames ≡ [])
   bare_frames none = no_list (one_in files).frames (two_in files).frames (sym s.some ∙ none)
 
-  new_is : seen.is_new ≡ true → (files.main ≡ []) × ((one_in files).frames ≡ []) × ((two_in files).frames ≡ [])
+  pub new_is : seen.is_new ≡ true → (files.main ≡ []) × ((one_in files).frames ≡ []) × ((two_in files).frames ≡ [])
   new_is new =
       let parts = both (length files.main == 0) (not (has_frames files)) (sym s.new ∙ new) in
       let bare = no_list (one_in files).frames (two_in files).frames (not_true (has_frames files) parts.1) in

@@ -1,10 +1,12 @@
 -- The files are ready for a store.
-use Rattle.std.specs.Prelude.{◌≡◌, ◌⊎◌, ◌+◌, ℕ, true, false, if◌then◌else◌, [], length, take, Result, Ok, Err}
+use Rattle.std.specs.Prelude.{◌≡◌, ◌⊎◌, ◌+◌, ◌<◌, ◌^◌, ℕ, true, false, if◌then◌else◌, [], length, take, Result, Ok, Err}
 use Rattle.disk_face.specs.Files.{Files}
 use Rattle.disk_face.specs.Steps.{History, reads}
 use Rattle.page_spec.specs.Header.{fields_of, page_size_in}
 use Rattle.page_spec.specs.PageMap.{PageMap}
 use Rattle.wal_frames.specs.declared.header.LogHeader.{LogHeader}
+use Rattle.wal_frames.specs.declared.header.Front.TheVariants.{Ours}
+use Rattle.wal_frames.specs.Front.{IsLegalFront}
 use Rattle.log_pair.specs.Pair.{PairView, new_pair}
 use Rattle.log_pair.specs.Appending.{LogStands}
 use Rattle.opening_spec.specs.Found.{OpeningView, FoundLog}
@@ -34,7 +36,7 @@ ReadyWith (Err fault) view later told = Unit {0}
 abbrev pub LeavesSettling : OpeningView → PageMap → History → Files → Type 0
 LeavesSettling view later told image = LeavesEither view later told image ⊎ ((all_synced told ≡ false) × LeftAtStart view told image)
 
--- The pair of two new headers without frames, of which log 1 is the current one and the newer.
+-- The pair of two new headers, legal ones, without frames, of which log 1 is the current one and the newer. Their first salts are of 32 bits.
 pub record IsNewPair (page_size : ℕ) (pair : PairView) : Type 0 where
   pub one : LogHeader
   pub two : LogHeader
@@ -42,6 +44,8 @@ pub record IsNewPair (page_size : ℕ) (pair : PairView) : Type 0 where
   pub size_one : one.page_size ≡ page_size
   pub size_two : two.page_size ≡ page_size
   pub newer : one.generation ≡ two.generation + 1
+  pub legal : IsLegalFront 1 (Ours one) × IsLegalFront 2 (Ours two)
+  pub salts : (one.salt1 < 2 ^ 32) × (two.salt1 < 2 ^ 32)
 
 -- the map with which the store begins: the pages of a new database, the recovered map with this program's versions, or that map itself
 abbrev pub first_map : StoreKind → SeenView → (page_size : ℕ) → PageMap → PageMap

@@ -220,5 +220,7 @@ RefusesLook before after files hot fault = IfSome files (λ files. IfSome hot (�
 
 pub record HasSeen (new_size : ℕ) (files : Option Files) (hot : Option Bool) (seen : SeenView) : Type 0 where
   pub whole : IsWholeSeen seen
+  pub new : seen.is_new ≡ true → seen.page_size ≡ new_size
   pub seen_is : IfSome files (λ files. IsSeen new_size files seen)
   pub no_fault : IfSome files (λ files. IfSome hot (λ hot. fault_of files hot ≡ None))
+  pub fine : IfSome files (λ files. fault_of files false ≡ None)

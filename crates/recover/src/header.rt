@@ -54,11 +54,12 @@ fn next_header(front: &Front, log: u8, page_size: u32, generation: u32, salt2: u
     requires which { (log ≡ 1) ⊎ (log ≡ 2) }
     requires page_size { IsTrue (is_page_size page_size) }
     requires generation { IsTrue (is_generation log generation) }
-    ensures next { (has : FoundLog) → has.salt ≡ last_salt front.now % 2 ^ 32 → has.most + 1 < 2 ^ 32 → IsNextHeader (log_file log) has result.bytes }
+    ensures next { (has : FoundLog) → has.salt ≡ last_salt front.now % 2 ^ 32 → has.most ≤ 1 → has.most + 1 ≤ generation → IsNextHeader (log_file log) has result.bytes }
     ensures fields { log_fields result.bytes ≡ fields_for result.header }
     ensures legal { IsLegalFront log (Front.Ours result.header) }
     ensures page_size { result.header.page_size ≡ page_size }
     ensures generation { result.header.generation ≡ generation }
+    ensures salt { result.header.salt1 < 2 ^ 32 }
 {
     NewHeader::sign(&LogHeader {
         big: true,
@@ -124,13 +125,14 @@ pub(crate) fn next_headers<W: Salts>(
     requires room { max (generation_in one.now) (generation_in two.now) + 4 ≤ last_generation }
     ensures first { result.first ≡ first_of one.now two.now }
     ensures second { result.second ≡ other_of result.first }
-    ensures next { (has1 has2 : FoundLog) → has1.salt ≡ last_salt one.now % 2 ^ 32 → has2.salt ≡ last_salt two.now % 2 ^ 32 → has1.most + 1 < 2 ^ 32 → has2.most + 1 < 2 ^ 32
+    ensures next { (has1 has2 : FoundLog) → has1.salt ≡ last_salt one.now % 2 ^ 32 → has2.salt ≡ last_salt two.now % 2 ^ 32 → has1.most ≤ 1 → has2.most ≤ 1
         → IsNextHeader result.first (found_log result.first has1 has2) result.here.bytes × IsNextHeader (other_of result.first) (found_log (other_of result.first) has1 has2) result.there.bytes }
     ensures one { fields_for result.one ≡ header1_of result.first (log_fields result.here.bytes) (log_fields result.there.bytes) }
     ensures two { fields_for result.two ≡ header2_of result.first (log_fields result.here.bytes) (log_fields result.there.bytes) }
     ensures legal { IsLegalFront 1 (Ours result.one) × IsLegalFront 2 (Ours result.two) }
     ensures sizes { (result.one.page_size ≡ page_size) × (result.two.page_size ≡ page_size) }
     ensures generations { result.one.generation ≡ result.two.generation + 1 }
+    ensures salts { (result.one.salt1 < 2 ^ 32) × (result.two.salt1 < 2 ^ 32) }
     ensures loans { W.loans salts.new ≡ W.loans salts.old }
 {
     let even = even_generation(newest_generation(one, two));
@@ -188,6 +190,7 @@ pub(crate) fn first_headers<W: Salts>(
     ensures legal { IsLegalFront 1 (Ours result.commit.header) × IsLegalFront 1 (Ours result.after.one) × IsLegalFront 2 (Ours result.after.two) }
     ensures sizes { (result.commit.header.page_size ≡ page_size) × (result.after.one.page_size ≡ page_size) × (result.after.two.page_size ≡ page_size) }
     ensures generations { result.after.one.generation ≡ result.after.two.generation + 1 }
+    ensures salts { (result.after.one.salt1 < 2 ^ 32) × (result.after.two.salt1 < 2 ^ 32) }
     ensures loans { W.loans salts.new ≡ W.loans salts.old }
 {
     let generation = odd_generation(newest_generation(one, two));

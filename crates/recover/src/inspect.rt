@@ -1,5 +1,5 @@
 // A look at a database's files, which only reads: it is told what stands there, or why it isn't opened.
-ghost use Rattle.std.specs.Prelude.{◌≡◌, ◌==◌, ◌&&◌, ◌||◌, ℕ, true, Some, None, IfOk, IfErr, IsTrue};
+ghost use Rattle.std.specs.Prelude.{◌≡◌, ◌==◌, ◌&&◌, ◌||◌, ℕ, true, false, Some, None, IfOk, IfErr, IsTrue};
 ghost use Rattle.disk_face.specs.Faults.{Counts};
 ghost use Rattle.disk_face.specs.Files.{Files};
 ghost use Rattle.disk_face.specs.Stays.{OnlyReads};
@@ -55,6 +55,7 @@ fn see_new(alloc: Global, looked: &Looked, page_size: u32) -> Seen
     ensures whole { IsWholeSeen result }
     ensures seen { (files : Files) → AreRead files looked.now → IsSeen page_size files result }
     ensures none { (files : Files) → AreRead files looked.now → missing_fault files ≡ None }
+    ensures size { result.page_size ≡ page_size }
 {
     Seen {
         is_new: true,
@@ -92,6 +93,7 @@ fn see_old(alloc: Global, looked: &Looked, first: &First) -> Result<Seen, LookFa
     ensures whole { IfOk result (λ seen. IsWholeSeen seen) }
     ensures seen { (new_size : ℕ) (files : Files) → AreRead files looked.now → IfOk result (λ seen. IsSeen new_size files seen) }
     ensures none { (files : Files) → AreRead files looked.now → IfOk result (λ seen. missing_fault files ≡ None) }
+    ensures old { IfOk result (λ seen. seen.is_new ≡ false) }
     ensures refused { IfErr result (λ why. IsSeenFault looked.now why) }
 {
     let header = first.header;
@@ -131,6 +133,7 @@ fn see(alloc: Global, looked: &Looked, new_size: u32) -> Result<Seen, LookFault>
     ensures whole { IfOk result (λ seen. IsWholeSeen seen) }
     ensures seen { (files : Files) → AreRead files looked.now → IfOk result (λ seen. IsSeen new_size files seen) }
     ensures none { (files : Files) → AreRead files looked.now → IfOk result (λ seen. missing_fault files ≡ None) }
+    ensures size { IfOk result (λ seen. seen.is_new ≡ true → seen.page_size ≡ new_size) }
     ensures refused { IfErr result (λ why. IsSeenFault looked.now why) }
 {
     match looked.page1 {

@@ -1,6 +1,6 @@
 // Why files are refused before their pages are looked for. Of causes that stand together the first is told, so the journal is asked
 // only where nothing before it bars the opening.
-ghost use Rattle.std.specs.Prelude.{◌≡◌, ◌<◌, ◌^◌, true, Some, None, IfErr, IfSome, OnOk};
+ghost use Rattle.std.specs.Prelude.{false, ◌≡◌, ◌<◌, ◌^◌, true, Some, None, IfErr, IfSome, OnOk};
 ghost use Rattle.disk_face.specs.Faults.{Counts};
 ghost use Rattle.disk_face.specs.Stays.{OnlyReads};
 ghost use Rattle.recover.specs.Seeing.{of_legacy, of_size, foreign_fault, last_written};
@@ -159,6 +159,7 @@ fn logs_fault(looked: &Looked) -> Option<LookFault>
 pub(crate) fn judge<D: Disk>(disk: &mut D, looked: &Looked) -> Result<(), LookFault>
     requires { D.attached disk.old ≡ true }
     ensures passed { OnOk result (IfSome (D.journal_answer disk.old) (λ hot. judged looked.now hot ≡ None)) }
+    ensures fine { OnOk result (judged looked.now false ≡ None) }
     ensures logs { OnOk result (logs_read looked.now ≡ None) }
     ensures refused { IfErr result (λ why. IsJudged looked.now (D.journal_answer disk.old) why) }
     ensures stays { OnlyReads D.DiskTells disk.old disk.new }

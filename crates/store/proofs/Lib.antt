@@ -16,3 +16,7 @@ mod Going
 mod Finished
 mod Resting
 mod Calls
+mod Beginning
+mod Settled
+mod OpenLaws
+mod Opened

@@ -1,6 +1,7 @@
 pub mod Commits
 pub mod Halts
 pub mod Kept
+pub mod Opening
 pub mod Fetching
 pub mod Barring
 pub mod Planning

@@ -9,6 +9,8 @@ mod fetch;
 mod halt;
 mod kept_pages;
 mod lay;
+mod open;
+mod open_fault;
 mod plan;
 mod room;
 mod solo;
@@ -17,6 +19,7 @@ mod write;
 
 pub use commits::{Commits, Wrote};
 pub use kept_pages::KeptPages;
+pub use open_fault::OpenFault;
 pub use plan::Plan;
 pub use solo::Solo;
 pub use store::{Halt, Store};

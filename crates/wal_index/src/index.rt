@@ -32,6 +32,8 @@ impl WalIndex {
         ensures pages2 { result.log2.pages ≡ [] }
         ensures numbers1 { result.log1.numbers ≡ [] }
         ensures numbers2 { result.log2.numbers ≡ [] }
+        ensures ends1 { result.log1.ends ≡ [] }
+        ensures ends2 { result.log2.ends ≡ [] }
         ensures tails1 { result.log1.tails ≡ [] }
         ensures tails2 { result.log2.tails ≡ [] }
     {

@@ -8,7 +8,7 @@ use Rattle.recover.proofs.inspect.look.Goals as goal
 pub returns-in-Ok-see-clause-seen : goal.returns-in-Ok-see-clause-seen
 returns-in-Ok-see-clause-seen g c =
     has_seen c.args.setup.now.page_size (g.D.DiskTells.told c.args.disk.now) (g.D.DiskTells.journal_answer c.args.disk.now) c.in-Ok.looked c.in-Ok-see.seen c.in-Ok.ensures.read c.in-Ok.ensures.legal
-    (subst (λ (hot : Option Bool). IfSome hot (λ hot. judged c.in-Ok.looked hot ≡ None)) c.in-Ok.ensures.stays.journal_answer c.in-Ok-judge.ensures.passed) c.in-Ok-see.ensures.whole c.in-Ok-see.ensures.seen c.in-Ok-see.ensures.none
+    (subst (λ (hot : Option Bool). IfSome hot (λ hot. judged c.in-Ok.looked hot ≡ None)) c.in-Ok.ensures.stays.journal_answer c.in-Ok-judge.ensures.passed) c.in-Ok-judge.ensures.fine c.in-Ok-see.ensures.whole c.in-Ok-see.ensures.size c.in-Ok-see.ensures.seen c.in-Ok-see.ensures.none
 
 pub returns-in-Ok-judge-clause-refused : goal.returns-in-Ok-judge-clause-refused
 returns-in-Ok-judge-clause-refused g c =

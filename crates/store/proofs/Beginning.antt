@@ -1,0 +1,305 @@
+-- A store as it begins is whole, and stands on its disk.
+use Rattle.std.proofs.Common.{◌≡◌, ◌⊎◌, inl, inr, ℕ, zero, suc, ◌+◌, ◌-◌, ◌*◌, ◌%◌, ◌^◌, ◌≤◌, ◌<◌, Bool, true, false, ◌||◌, List, [], ◌∷◌, length, take, drop, Option, Some, None, refl, sym, ◌∙◌, ap, subst, arith, length-drop}
+use Rattle.std.specs.Prelude.{All, Contains, nat_eq, IfSome, slice_index_or, ◌↔◌}
+use Rattle.std.proofs.lemmas.Bool.Decides.{nat_tests}
+use Rattle.std.proofs.lemmas.List.{length-take}
+use Rattle.std.proofs.lemmas.List.Elements.{All-nil, All-head, All-tail}
+use Rattle.disk_face.specs.declared.disk.File.TheVariants.{Main, Log1, Log2}
+use Rattle.disk_face.specs.Steps.{History, reads}
+use Rattle.page_spec.specs.Header.{is_page_size}
+use Rattle.page_spec.specs.PageMap.{PageMap, page_at, page_sizes}
+use Rattle.log_spec.specs.LogHeader.{is_generation, last_generation}
+use Rattle.crash_spec.specs.Opening.{Opening, Since, rebased}
+use Rattle.crash_spec.specs.Known.{known_pieces}
+use Rattle.crash_spec.specs.Logs.{AreBehind}
+use Rattle.crash_spec.specs.Recovered.{overlaid, main_page}
+use Rattle.crash_spec.specs.Store.{HoldsStore, named_size}
+use Rattle.crash_spec.proofs.Rebased.{rebased_reads}
+use Rattle.engine_spec.specs.declared.commits.Commit.{Commit}
+use Rattle.engine_spec.specs.declared.pins.Pin.{Pin}
+use Rattle.engine_spec.specs.declared.pins.Readers.{Readers}
+use Rattle.engine_spec.specs.Good.{HasSizes}
+use Rattle.engine_spec.specs.History.{statements_of}
+use Rattle.log_spec.specs.Accept.{Frame}
+use Rattle.std.proofs.Math.Seq.{take-nil}
+use Rattle.wal_frames.specs.declared.header.LogHeader.{LogHeader}
+use Rattle.wal_frames.specs.Front.{fields_for}
+use Rattle.log_pair.specs.Pair.{PairView, IsPair, new_pair}
+use Rattle.opening_spec.specs.Found.{OpeningView}
+use Rattle.recover.specs.Ready.{IsReady, IsNewPair}
+use Rattle.recover.proofs.Begun.{ready_holds}
+use Rattle.recover.proofs.NewPages.{one_of}
+use Rattle.recover.proofs.SeenFiles.{legal_size}
+use Rattle.store_spec.specs.Store.{StoreData, two_logs, newest_told, since_of}
+use Rattle.store_spec.specs.Pins.{PinHolds, mark_at}
+use Rattle.store_spec.specs.Standing.{IsCountedLog, IsWholeStore, IsReadable, AreFronts, IsStoreOn, StandsOn, IsOpenedAt, IsLiveStore, StandsFrom}
+use Rattle.store_spec.specs.Steady.{IsSteady}
+use Rattle.store_spec.proofs.NamedLaws.{named_bare}
+use Rattle.store_spec.proofs.Named.{named_none}
+use Rattle.store_spec.proofs.Reading.{on_has, page_of_overlaid}
+use Rattle.store.specs.Opening.{IsBeginning, page_count, no_frames, first_state, no_readers}
+
+-- a store as it begins
+abbrev pub first_kept : (bytes used most : ℕ) → (one two : LogHeader) → StoreData
+first_kept bytes used most one two = record {
+  page_size = bytes;
+  usable = used;
+  size = page_count;
+  limit = most;
+  pair = new_pair 1 one two;
+  index = no_frames;
+  state = first_state;
+  history = [];
+  stop = None;
+}
+
+pub kept_is : (bytes used most : ℕ) (kept : StoreData) → (b : IsBeginning bytes used most kept) → kept ≡ first_kept bytes used most b.pair.one b.pair.two
+kept_is bytes used most kept b = λ i. record {
+  page_size = b.page_size i;
+  usable = b.usable i;
+  size = b.size i;
+  limit = b.limit i;
+  pair = b.pair.is i;
+  index = b.index i;
+  state = b.state i;
+  history = b.history i;
+  stop = b.stop i;
+}
+
+-- each page size that a header may name is one of the list
+same_number : (m n : ℕ) → nat_eq m n ≡ true → n ≡ m
+same_number m n is = grind (arith, nat_tests)
+
+pub is_legal : (n : ℕ) → is_page_size n ≡ true → Contains page_sizes n
+unfolding is_page_size
+is_legal n is = elim (one_of (nat_eq n 512) _ is) [
+  | inl at ↦ (0, omega arith, same_number n 512 at)
+  | inr is ↦ elim (one_of (nat_eq n 1024) _ is) [
+    | inl at ↦ (1, omega arith, same_number n 1024 at)
+    | inr is ↦ elim (one_of (nat_eq n 2048) _ is) [
+      | inl at ↦ (2, omega arith, same_number n 2048 at)
+      | inr is ↦ elim (one_of (nat_eq n 4096) _ is) [
+        | inl at ↦ (3, omega arith, same_number n 4096 at)
+        | inr is ↦ elim (one_of (nat_eq n 8192) _ is) [
+          | inl at ↦ (4, omega arith, same_number n 8192 at)
+          | inr is ↦ elim (one_of (nat_eq n 16384) _ is) [
+            | inl at ↦ (5, omega arith, same_number n 16384 at)
+            | inr is ↦ elim (one_of (nat_eq n 32768) _ is) [
+              | inl at ↦ (6, omega arith, same_number n 32768 at)
+              | inr is ↦ elim (one_of (nat_eq n 65536) _ is) [
+                | inl at ↦ (7, omega arith, same_number n 65536 at)
+                | inr is ↦ cc
+              ]
+            ]
+          ]
+        ]
+      ]
+    ]
+  ]
+]
+
+-- what a generation of log 1 is
+generation_of_one : (g : ℕ) → is_generation 1 g ≡ true → (1 ≤ g) × (g ≤ last_generation) × (g % 2 ≡ 1)
+unfolding is_generation
+generation_of_one g is = (grind (arith, nat_tests), grind (arith, nat_tests), grind (arith, nat_tests))
+
+-- What an opening gives a store: a legal page size, of which enough is in use, a limit, and headers that are legal.
+pub record MayBegin (bytes used most : ℕ) : Type 0 where
+  pub legal : is_page_size bytes ≡ true
+  pub usable : (480 ≤ used) × (used ≤ bytes)
+  pub limit : 1 ≤ most
+
+module _ (bytes used most : ℕ) (may : MayBegin bytes used most) (pair : PairView) (new : IsNewPair bytes pair) where
+  abbrev kept : StoreData
+  kept = first_kept bytes used most new.one new.two
+
+  fits : page_count * bytes ≤ 2 ^ 30
+  fits = omega (arith, (legal_size bytes may.legal).1)
+
+  is_pair : IsPair kept.pair
+  is_pair = record {
+    which = inl refl;
+    one = record { page_size = new.legal.0.0; generation = new.legal.0.1 };
+    two = record { page_size = new.legal.1.0; generation = new.legal.1.1 };
+    same_size = new.size_two ∙ sym new.size_one;
+    counted = omega arith;
+  }
+
+  none_first : All (λ (commit : Commit). Contains commit.wrote 1) []
+  none_first = All-nil (λ (commit : Commit). Contains commit.wrote 1)
+
+  no_pages : All (λ page. (1 ≤ page) × (page ≤ page_count)) []
+  no_pages = All-nil (λ (page : ℕ). (1 ≤ page) × (page ≤ page_count))
+
+  pub first_whole : IsWholeStore kept
+  first_whole =
+      let generation = generation_of_one new.one.generation new.legal.0.1 in
+      record {
+        legal = is_legal bytes may.legal;
+        usable = may.usable;
+        some = omega arith;
+        fits = fits;
+        limit = may.limit;
+        pair = is_pair;
+        page_size = new.size_one;
+        rising = sym new.newer;
+        current = refl;
+        index = record {
+          are = record {
+            current = inl refl;
+            least = generation.0;
+            most = generation.1;
+            odd = ((λ odd. refl), (λ one. generation.2));
+            since = omega arith;
+            other_since = omega arith;
+          };
+          current = record { pages = refl; numbers = refl; ends = refl; tails = refl; first_pages = none_first };
+          other = record { pages = refl; numbers = refl; ends = refl; tails = refl; first_pages = none_first };
+        };
+        log1 = record { counted = refl; pages = no_pages };
+        log2 = record { counted = refl; pages = no_pages };
+        sealed = λ none. refl;
+      }
+
+  -- since the opening of which its files are ready
+  pub first_stands : (view : OpeningView) (later : PageMap) (told : History) → view.size ≡ bytes → IsReady view later kept.pair told → StandsOn view.opening kept told
+  first_stands view later told sized r = inl (record {
+    pending = [];
+    later = later;
+    there = record {
+      current = on_has view.opening told Log1 kept.pair.one.header [] [] r.settled.log1.on;
+      other = on_has view.opening told Log2 kept.pair.two.header [] [] r.settled.log2.on;
+      current_pages = refl;
+      other_pages = refl;
+      copied = λ number from or. refl;
+    };
+    holds = holds;
+    running = record { none = refl; stands = r.stands; whole = λ place inside. r.settled.log1.sure place };
+    other_whole = λ place inside. r.settled.log2.sure place;
+    main_whole = λ done. r.settled.written.main;
+    fronts = fronts;
+  })
+    where
+      pair_is : IsNewPair view.size kept.pair
+      pair_is = record { one = new.one; two = new.two; is = refl; size_one = new.size_one ∙ sym sized; size_two = new.size_two ∙ sym sized; newer = new.newer; legal = new.legal; salts = new.salts }
+
+      holds : HoldsStore view.opening Log1 kept.pair.one.header kept.pair.two.header [] [] [] bytes (overlaid (reads told).main [] []) later told
+      holds =
+          subst (λ (n : ℕ). HoldsStore view.opening Log1 kept.pair.one.header kept.pair.two.header [] [] [] n (overlaid (reads told).main [] []) later told) sized
+          (subst (λ (m : PageMap). HoldsStore view.opening Log1 kept.pair.one.header kept.pair.two.header [] [] [] view.size m later told) (sym r.settled.written.bare)
+          (ready_holds view later kept.pair told r pair_is (omega (arith, sized, (legal_size bytes may.legal).0))))
+
+      fronts : AreFronts view.opening kept told
+      fronts = record {
+        most1 = r.settled.one.most;
+        most2 = r.settled.two.most;
+        few = (r.settled.last1.few, omega (arith, r.settled.last2.few, new.newer));
+        log1 = record {
+          only = r.settled.written.log1.only;
+          behind = subst (λ (salt : ℕ). AreBehind (known_pieces view.opening told) Log1 salt r.settled.one.most) (sym r.settled.last1.salt) r.settled.written.log1.behind;
+          ours = r.settled.written.log1.ours;
+        };
+        log2 = record {
+          only = r.settled.written.log2.only;
+          behind = subst (λ (salt : ℕ). AreBehind (known_pieces view.opening told) Log2 salt r.settled.two.most) (sym r.settled.last2.salt) r.settled.written.log2.behind;
+          ours = r.settled.written.log2.ours;
+        };
+      }
+
+  pub first_opened : (view : OpeningView) (later : PageMap) (told : Option History) → view.size ≡ bytes → Since view.opening.start (IsReady view later kept.pair) told
+      → IsOpenedAt view.opening kept told
+  first_opened view later None sized ready = tt
+  first_opened view later (Some told) sized (since, grew, ready) = (since, grew, first_stands view later (rebased view.opening.start since) sized ready)
+
+  -- what the files show, where they are ready
+  main_is : (view : OpeningView) (later : PageMap) (told : History) → Since view.opening.start (IsReady view later kept.pair) (Some told)
+      → (overlaid (reads told).main [] [] ≡ later) × (named_size (reads told).main [] [] ≡ view.size)
+      × (32 ≤ length (reads told).log1) × (32 ≤ length (reads told).log2)
+  main_is view later told (since, grew, r) =
+      let same = ap reads grew ∙ rebased_reads view.opening.start since in
+      subst (λ files. (overlaid files.main [] [] ≡ later) × (named_size files.main [] [] ≡ view.size) × (32 ≤ length files.log1) × (32 ≤ length files.log2)) (sym same)
+      (r.settled.written.bare, r.sized, omega (arith, r.settled.log1.on.long), omega (arith, r.settled.log2.on.long))
+
+  -- a page of the map is all there
+  last_page : (pages : PageMap) (size : ℕ) → length pages ≡ 16 → All (λ page. length page ≡ size) pages → length (page_at pages 16) ≡ size
+  last_page pages size count all = nth pages 15 (omega (arith, count)) all
+    where
+      nth : (pages : PageMap) (k : ℕ) → k < length pages → All (λ page. length page ≡ size) pages → length (slice_index_or pages k []) ≡ size
+      nth [] k less all = absurd (omega arith)
+      nth (page ∷ pages) zero less all = All-head (λ (page : List ℕ). length page ≡ size) page pages all
+      nth (page ∷ pages) (suc k) less all = nth pages k (omega arith) (All-tail (λ (page : List ℕ). length page ≡ size) page pages all)
+
+  main_long : (main : List ℕ) → named_size main [] [] ≡ bytes → HasSizes (overlaid main [] []) 16 bytes → 16 * bytes ≤ length main
+  main_long main named sizes =
+      let page = page_of_overlaid bytes main [] [] 16 named (omega arith) (omega (arith, sizes.count)) in
+      let whole : length (take bytes (drop (15 * bytes) main)) ≡ bytes = sym (ap (λ (bytes : List ℕ). length bytes) page) ∙ last_page (overlaid main [] []) bytes sizes.count sizes.each in
+      omega (arith, whole, length-take bytes (drop (15 * bytes) main), length-drop (15 * bytes) main, (legal_size bytes may.legal).0)
+
+  pub first_sizes : (view : OpeningView) (later : PageMap) (told : Option History) → IfSome told (λ told. HasSizes later 16 bytes) → Since view.opening.start (IsReady view later kept.pair) told
+      → IfSome (newest_told kept told) (λ pages. HasSizes pages page_count bytes)
+  first_sizes view later None sizes ready = tt
+  first_sizes view later (Some told) sizes ready = subst (λ (map : PageMap). HasSizes map 16 bytes) (sym (main_is view later told ready).0) sizes
+
+  pub first_newest : (view : OpeningView) (later : PageMap) (told : Option History) → Since view.opening.start (IsReady view later kept.pair) told
+      → IfSome (newest_told kept told) (λ pages. pages ≡ later)
+  first_newest view later None ready = tt
+  first_newest view later (Some told) ready = (main_is view later told ready).0
+
+  pub first_readable : (view : OpeningView) (later : PageMap) (told : Option History) → view.size ≡ bytes → IfSome told (λ told. HasSizes later 16 bytes)
+      → Since view.opening.start (IsReady view later kept.pair) told → IsReadable kept told
+  first_readable view later None sized sizes ready = record { log1 = tt; log2 = tt; main = tt }
+  first_readable view later (Some told) sized sizes ready =
+      let files = main_is view later told ready in
+      let none1 : 0 * (24 + new.one.page_size) ≡ 0 = grind arith in
+      let none2 : 0 * (24 + new.two.page_size) ≡ 0 = grind arith in
+      record {
+        log1 = omega (arith, files.2, none1);
+        log2 = omega (arith, files.3, none2);
+        main = omega (arith, main_long (reads told).main (files.1 ∙ sized) (subst (λ (map : PageMap). HasSizes map 16 bytes) (sym files.0) sizes));
+      }
+
+  pub first_live : (view : OpeningView) (later : PageMap) (told : Option History) → view.size ≡ bytes → IfSome told (λ told. HasSizes later 16 bytes)
+      → Since view.opening.start (IsReady view later kept.pair) told → IsLiveStore told kept no_readers []
+  first_live view later told sized sizes ready = record {
+    whole = first_whole;
+    readable = first_readable view later told sized sizes ready;
+    sizes = first_sizes view later told sizes ready;
+    hold = All-nil (PinHolds told kept);
+    counted = λ lock. inl (omega arith);
+    opening = view.opening;
+    opened = first_opened view later told sized ready;
+  }
+
+  pub first_steady : (view : OpeningView) (later : PageMap) (told : Option History) → view.size ≡ bytes → Since view.opening.start (IsReady view later kept.pair) told
+      → IsSteady told kept no_readers []
+  first_steady view later None sized ready = record {
+    named = record { fronts = tt; older = λ some. tt };
+    frames = tt;
+    salts = new.salts;
+    begun = λ none. inr refl;
+    smaller = All-nil (λ (pin : Pin). pin.size ≤ page_count);
+  }
+  first_steady view later (Some told) sized ready = record {
+    named = named_bare kept told no_readers refl refl ((main_is view later told ready).1 ∙ sized);
+    frames = named_none bytes;
+    salts = new.salts;
+    begun = λ none. inr refl;
+    smaller = All-nil (λ (pin : Pin). pin.size ≤ page_count);
+  }
+
+  -- it stands for a run from its own map
+  pub first_from : (sound : PageMap → Type 0) (leads : PageMap → List (List ℕ) → PageMap → Type 0) (first : PageMap) (view : OpeningView) (later : PageMap) (told : Option History)
+      → Since view.opening.start (IsReady view later kept.pair) told → IfSome told (λ told. (first ≡ later) × sound first × leads first [] first)
+      → StandsFrom sound leads first told kept no_readers
+  first_from sound leads first view later None ready is = record { snaps = tt; newest = tt; fronts = tt; older = λ some. tt }
+  first_from sound leads first view later (Some told) ready (same, good, rests) = record {
+    snaps = tt;
+    newest = holds;
+    fronts = λ n front.
+        subst (λ (frames : List Frame). sound (overlaid (reads told).main [] frames) × leads first (statements_of (take n [])) (overlaid (reads told).main [] frames)) (sym (take-nil (mark_at [] (since_of kept) n)))
+        (subst (λ (commits : List Commit). sound (overlaid (reads told).main [] []) × leads first (statements_of commits) (overlaid (reads told).main [] [])) (sym (take-nil n)) holds);
+    older = λ some. absurd (omega arith);
+  }
+    where
+      holds : sound (overlaid (reads told).main [] []) × leads first [] (overlaid (reads told).main [] [])
+      holds = subst (λ (map : PageMap). sound map × leads first [] map) (same ∙ sym (main_is view later told ready).0) (good, rests)
