@@ -60,7 +60,7 @@ def number(n):
 
 def header(pages, versions=(3, 3), page_size=512):
     """The first 100 bytes of page 1 of a database that this program lays."""
-    return put(bytes(100), (0, b"SQLite format 3\0"), (16, struct.pack(">H", page_size % 65536)), (18, bytes(versions)), (21, b"\x40\x20\x20"),
+    return put(bytes(100), (0, b"SQLite format 3\0"), (16, struct.pack(">H", page_size % 65535)), (18, bytes(versions)), (21, b"\x40\x20\x20"),
                (24, number(1)), (28, number(pages)), (44, number(4)), (56, number(1)), (92, number(1)))
 
 
@@ -367,6 +367,7 @@ def main():
     store = name("A page store of 16 pages.", "Store", b"".join(new_pages("Pages")))
     name("A new database of tables.", "NewTables", new_pages("Tables")[0])
     three = name("Three pages, of which page 1 names three.", "Three", first_page(3, 1) + page(2) + page(3))
+    widest = name("One page of 65,536 bytes.", "Widest", header(1, page_size=65536) + b"\x05" + bytes(65435))
     zeros = name("A hundred zero bytes.", "Zeros", bytes(100))
     frames = [(1, 0, first_page(4, 50)), (4, 4, page(54)), (2, 0, page(52)), (4, 4, page(55)), (3, 0, page(59))]
     newer = name("Log 1 of generation 5: page 1, which names four pages, page 4, page 2 and page 4 again, each page 4 at the end of a commit of four "
@@ -380,6 +381,7 @@ def main():
                      log(5, [(1, 0, first_page(4, 5, (1, 1))), (4, 4, page(6))]))
     name("What it makes of Stock, with versions 3, 3.", "Migrated", first_page(4, 5) + plain[512:] + page(6))
     only2 = name("Log 1 with page 2 alone.", "OnlyPage2", log(5, [(2, 2, page(2))]))
+    grown = name("Log 1 with page 4 alone.", "Grown", log(5, [(4, 4, page(7))]))
     to5 = name("Log 1 with page 2 at the end of a commit of five pages.", "ToPage5", log(5, [(2, 5, page(7))]))
     wide1 = name("Log 1 with a frame of 1,024 bytes.", "Wide1", log(5, [(2, 3, page(7, 1024))], page_size=1024))
     wide2 = name("Log 2 with one.", "Wide2", log(4, [(2, 3, page(7, 1024))], page_size=1024))
@@ -409,11 +411,13 @@ def main():
     sees("480 bytes in use", (False, 3, 512, 480, 3, 13), plain, puts=((20, b"\x20"),))
     sees("the size doesn't count, since the change counter went on", fine, plain, puts=((28, number(9)), (92, number(0))))
     sees("a page store", (False, 16, 512, 512, 16, 0), store, bare9, bare8)
+    sees("a page of 65,536 bytes", (False, 1, 65536, 65536, 1, 5), widest)
     sees("SQLite's own log mode with no log", fine, logged)
     sees("a log of another page size with no frames", fine, plain, wide)
     sees("the newer log 1 has the last page 1, and ends the map", (False, 4, 512, 512, 4, 50), three, newer, second)
     sees("the newer log 2 does", (False, 3, 512, 512, 3, 40), three, older, second)
     sees("log 1 alone makes the map greater", (False, 4, 512, 512, 4, 50), three, newer)
+    sees("page 1 names another size than was recovered", (False, 4, 512, 512, 3, 1), three, grown)
     sees("its page 3 is in no commit", "Missing { page: 3 }", b"", newer)
     sees("too few bytes", head % "NotADb", zeros, cut=50)
     sees("zero bytes", head % "NotADb", zeros)
@@ -467,8 +471,8 @@ def main():
     arms = "\n".join(ARMS)
     variants = "\n".join("%s," % called for called in FILES)
     write("files.rt", "// Files of databases.", "use crate::trial::Runs;\n", "%s\n%s" % (FILE_USES % (variants, arms), "\n".join(LINES)))
-    write("seen.rt", "// What a look has to see.", LOOK_USES, "pub const LOOKS: [Look; %d] = [\n%s\n];" % (len(LOOKS), "\n".join(LOOKS)))
-    write("left.rt", "// What settling has to leave.", LEFT_USES, "pub const SETTLES: [Settled; %d] = [\n%s\n];" % (len(SETTLES), "\n".join(SETTLES)))
+    write("seen.rt", "// What a look has to see.", LOOK_USES, "pub const LOOKS: &[Look] = &[\n%s\n];" % "\n".join(LOOKS))
+    write("left.rt", "// What settling has to leave.", LEFT_USES, "pub const SETTLES: &[Settled] = &[\n%s\n];" % "\n".join(SETTLES))
 
 
 FILE_USES = """/// A file.
@@ -491,7 +495,7 @@ use disk_face::File;
 use recover::LookFault;
 
 /// Files of which Main gets other bytes at some places and is cut by so many at its end, and what is seen of them.
-#[derive(Drop)]
+#[derive(Clone, Copy)]
 pub struct Look {
     pub main: Named,
     pub puts: &'static [(usize, &'static [u8])],
@@ -510,7 +514,7 @@ use recover::StoreKind;
 
 /// Files; what is left of Main and at the front of the logs once they are settled, and the generation of log 1; how many writes and syncs of
 /// Main, log 1 and log 2 there were; and what is seen then.
-#[derive(Drop)]
+#[derive(Clone, Copy)]
 pub struct Settled {
     pub main: Named,
     pub one: Named,

@@ -12,6 +12,7 @@ pub enum Named {
     Store,
     NewTables,
     Three,
+    Widest,
     Zeros,
     Newer,
     Older,
@@ -21,6 +22,7 @@ pub enum Named {
     Migrating,
     Migrated,
     OnlyPage2,
+    Grown,
     ToPage5,
     Wide1,
     Wide2,
@@ -54,6 +56,7 @@ pub fn runs_of(named: Named) -> Runs {
         Named::Store => STORE,
         Named::NewTables => NEW_TABLES,
         Named::Three => THREE,
+        Named::Widest => WIDEST,
         Named::Zeros => ZEROS,
         Named::Newer => NEWER,
         Named::Older => OLDER,
@@ -63,6 +66,7 @@ pub fn runs_of(named: Named) -> Runs {
         Named::Migrating => MIGRATING,
         Named::Migrated => MIGRATED,
         Named::OnlyPage2 => ONLY_PAGE2,
+        Named::Grown => GROWN,
         Named::ToPage5 => TO_PAGE5,
         Named::Wide1 => WIDE1,
         Named::Wide2 => WIDE2,
@@ -201,6 +205,21 @@ const THREE: Runs = &[
     (b"\x01\x00\x00\x00\x00", 412, 1),
     (b"", 512, 2),
     (b"", 512, 3),
+];
+
+/// One page of 65,536 bytes.
+const WIDEST: Runs = &[
+    (
+        b"SQLite format 3\x00\x00\x01\x03\x03\x00\x40  \x00\x00\x00\x01\x00\x00\x00\x01",
+        15,
+        0,
+    ),
+    (
+        b"\x04\x00\x00\x00\x00\x00\x00\x00\x00\x00\x00\x00\x01",
+        35,
+        0,
+    ),
+    (b"\x01\x00\x00\x00\x00\x05", 65435, 0),
 ];
 
 /// A hundred zero bytes.
@@ -379,6 +398,13 @@ const ONLY_PAGE2: Runs = &[(
     b"7\x7f\x06\x83\x05\x8bcH\x00\x00\x02\x00\x00\x00\x00\x05\x00\x00\x00\x06\x00\x00\x00\x0b\x26\x1dNr\xd7\xb1\x2a\x9b\x00\x00\x00\x02\x00\x00\x00\x02\x00\x00\x00\x06\x00\x00\x00\x0bT\x97\x99\xd1S\xd6\x0b\xaf",
     512,
     2,
+)];
+
+/// Log 1 with page 4 alone.
+const GROWN: Runs = &[(
+    b"7\x7f\x06\x83\x05\x8bcH\x00\x00\x02\x00\x00\x00\x00\x05\x00\x00\x00\x06\x00\x00\x00\x0b\x26\x1dNr\xd7\xb1\x2a\x9b\x00\x00\x00\x04\x00\x00\x00\x04\x00\x00\x00\x06\x00\x00\x00\x0bsc\xe0\x84\x7d\x04\x96\xff",
+    512,
+    7,
 )];
 
 /// Log 1 with page 2 at the end of a commit of five pages.

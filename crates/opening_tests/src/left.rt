@@ -5,7 +5,7 @@ use recover::StoreKind;
 
 /// Files; what is left of Main and at the front of the logs once they are settled, and the generation of log 1; how many writes and syncs of
 /// Main, log 1 and log 2 there were; and what is seen then.
-#[derive(Drop)]
+#[derive(Clone, Copy)]
 pub struct Settled {
     pub main: Named,
     pub one: Named,
@@ -20,7 +20,7 @@ pub struct Settled {
     pub told: Told,
 }
 
-pub const SETTLES: [Settled; 9] = [
+pub const SETTLES: &[Settled] = &[
     // a new page store
     Settled {
         main: Named::Empty,

@@ -1,5 +1,6 @@
 // Openings that only look, that settle the files, and that break off at each call.
-ghost use Rattle.std.specs.Prelude.{◌≡◌, false, IfOk};
+ghost use Rattle.std.specs.Prelude.{◌≡◌, false, IfOk, IsTrue};
+ghost use Rattle.page_spec.specs.Header.{is_page_size};
 
 use crate::left::{SETTLES, Settled};
 use crate::seen::{LOOKS, Look};
@@ -35,7 +36,8 @@ fn main_of(alloc: Global, row: &Look) -> Result<Vec<u8>, AllocError> {
 
 /// What a look sees of files that are still to be named.
 fn first_look(alloc: Global, mut disk: MemDisk, page_size: u32) -> Result<Told, LookFault>
-    requires { disk.attached ≡ false }
+    requires attached { disk.attached ≡ false }
+    requires page_size { IsTrue (is_page_size page_size) }
 {
     if disk.attach(b"db").is_err() {
         return Err(LookFault::Disk);
@@ -44,6 +46,7 @@ fn first_look(alloc: Global, mut disk: MemDisk, page_size: u32) -> Result<Told, 
 }
 
 /// Whether a look sees what the row says.
+#[tactic(auto, unfolding(page_spec::specs::Header::is_page_size))]
 fn sees(alloc: Global, row: &Look) -> Result<bool, AllocError> {
     let main = main_of(alloc, row)?;
     let mut disk = disk_of(alloc, main, row.one, row.two)?;
@@ -53,7 +56,7 @@ fn sees(alloc: Global, row: &Look) -> Result<bool, AllocError> {
 
 #[test]
 fn what_a_look_sees(rt: HostRuntime) -> Result<(), Fail> {
-    for row in &LOOKS {
+    for row in LOOKS {
         assert!(rt; sees(rt.alloc(), row)?);
     }
     Ok(())
@@ -84,6 +87,7 @@ fn counts(made: &[Made], call: Call) -> [usize; 3] {
 }
 
 /// Whether Main is the row's map and no log says otherwise: a look at the files as they are sees that map.
+#[tactic(auto, unfolding(page_spec::specs::Header::is_page_size))]
 fn is_map(alloc: Global, disk: &MemDisk, row: &Settled) -> Result<bool, AllocError> {
     let same = disk.crash(&[])?;
     let told = first_look(alloc, same, 512);
@@ -111,7 +115,7 @@ fn settles(alloc: Global, row: &Settled) -> Result<bool, AllocError> {
 
 #[test]
 fn what_settling_leaves(rt: HostRuntime) -> Result<(), Fail> {
-    for row in &SETTLES {
+    for row in SETTLES {
         assert!(rt; settles(rt.alloc(), row)?);
     }
     Ok(())
@@ -152,7 +156,7 @@ fn breaks_off(alloc: Global, row: &Settled, calls: u64) -> Result<bool, AllocErr
 
 #[test]
 fn an_opening_that_breaks_off_loses_no_page(rt: HostRuntime) -> Result<(), Fail> {
-    for row in &SETTLES {
+    for row in SETTLES {
         for calls in 0..MOST_CALLS {
             assert!(rt; breaks_off(rt.alloc(), row, calls)?);
         }

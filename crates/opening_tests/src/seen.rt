@@ -6,7 +6,7 @@ use disk_face::File;
 use recover::LookFault;
 
 /// Files of which Main gets other bytes at some places and is cut by so many at its end, and what is seen of them.
-#[derive(Drop)]
+#[derive(Clone, Copy)]
 pub struct Look {
     pub main: Named,
     pub puts: &'static [(usize, &'static [u8])],
@@ -27,7 +27,7 @@ const NOTHING: Look = Look {
     told: Err(LookFault::Disk),
 };
 
-pub const LOOKS: [Look; 63] = [
+pub const LOOKS: &[Look] = &[
     // nothing there yet
     Look {
         told: Ok((true, [0, 4096, 4096, 0], 0)),
@@ -68,6 +68,12 @@ pub const LOOKS: [Look; 63] = [
         told: Ok((false, [16, 512, 512, 16], 0)),
         ..NOTHING
     },
+    // a page of 65,536 bytes
+    Look {
+        main: Named::Widest,
+        told: Ok((false, [1, 65536, 65536, 1], 5)),
+        ..NOTHING
+    },
     // SQLite's own log mode with no log
     Look {
         main: Named::Logged,
@@ -102,6 +108,13 @@ pub const LOOKS: [Look; 63] = [
         main: Named::Three,
         one: Named::Newer,
         told: Ok((false, [4, 512, 512, 4], 50)),
+        ..NOTHING
+    },
+    // page 1 names another size than was recovered
+    Look {
+        main: Named::Three,
+        one: Named::Grown,
+        told: Ok((false, [4, 512, 512, 3], 1)),
         ..NOTHING
     },
     // its page 3 is in no commit

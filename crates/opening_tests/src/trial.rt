@@ -1,6 +1,7 @@
 // A database's files on a disk in memory, and calls on them. Each call is made only where its contract lets it.
-ghost use Rattle.std.specs.Prelude.{◌≡◌, true, false, IfOk, IfSome};
+ghost use Rattle.std.specs.Prelude.{◌≡◌, true, false, IfOk, IsTrue};
 ghost use Rattle.disk_face.specs.Steps.{reads};
+ghost use Rattle.page_spec.specs.Header.{is_page_size};
 ghost use Rattle.recover.specs.Seeing.{IsWholeSeen, IsSeen};
 
 use crate::files::{Named, runs_of};
@@ -28,7 +29,7 @@ pub fn bytes_of(alloc: Global, named: Named) -> Result<Vec<u8>, AllocError> {
     let mut bytes = Vec::new(alloc);
     for (front, count, byte) in runs_of(named) {
         bytes.extend_from_slice(front)?;
-        bytes.resize(bytes.len() + *count, *byte)?;
+        bytes.resize(bytes.len().saturating_add(*count), *byte)?;
     }
     Ok(bytes)
 }
@@ -51,11 +52,9 @@ fn told_of(seen: &Seen) -> Told
 
 /// What a look sees of the files, where a new database gets pages of this size.
 pub fn looks(alloc: Global, disk: &mut MemDisk, page_size: u32) -> Result<Told, LookFault>
-    requires { disk.old.attached ≡ true }
+    requires attached { disk.old.attached ≡ true }
+    requires page_size { IsTrue (is_page_size page_size) }
 {
-    if page_size != 4096 && page_size != NEW_SIZE {
-        return Err(LookFault::Memory);
-    }
     let setup = Setup {
         kind: StoreKind::Pages,
         page_size,
@@ -70,10 +69,10 @@ pub fn looks(alloc: Global, disk: &mut MemDisk, page_size: u32) -> Result<Told, 
 /// Settles what was seen, and tells the generation of log 1; 0 where page 1 names another size than was recovered.
 fn settles(alloc: Global, disk: &mut MemDisk, seen: Seen, setup: &Setup) -> Result<u32, LookFault>
     requires attached { disk.old.attached ≡ true }
-    requires page_size { setup.now.page_size ≡ 512 }
+    requires page_size { IsTrue (is_page_size setup.now.page_size) }
     requires whole { IsWholeSeen seen }
-    requires new_size { seen.is_new ≡ true → seen.page_size ≡ 512 }
-    requires seen { IsSeen 512 (reads disk.old.told) seen }
+    requires new_size { seen.is_new ≡ true → seen.page_size ≡ setup.now.page_size }
+    requires seen { IsSeen setup.now.page_size (reads disk.old.told) seen }
 {
     if !seen.is_new() && seen.named() != seen.pages() {
         return Ok(0);
@@ -90,6 +89,7 @@ fn settles(alloc: Global, disk: &mut MemDisk, seen: Seen, setup: &Setup) -> Resu
 }
 
 /// Names the files, looks at them and settles them, and tells the generation of log 1.
+#[tactic(auto, unfolding(page_spec::specs::Header::is_page_size))]
 pub fn opens(alloc: Global, disk: &mut MemDisk, kind: StoreKind) -> Result<u32, LookFault>
     requires { disk.old.attached ≡ false }
 {
