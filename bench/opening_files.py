@@ -60,7 +60,7 @@ def number(n):
 
 def header(pages, versions=(3, 3), page_size=512):
     """The first 100 bytes of page 1 of a database that this program lays."""
-    return put(bytes(100), (0, b"SQLite format 3\0"), (16, struct.pack(">H", page_size % 65535)), (18, bytes(versions)), (21, b"\x40\x20\x20"),
+    return put(bytes(100), (0, b"SQLite format 3\0"), (16, struct.pack(">H", 1 if page_size == 65536 else page_size)), (18, bytes(versions)), (21, b"\x40\x20\x20"),
                (24, number(1)), (28, number(pages)), (44, number(4)), (56, number(1)), (92, number(1)))
 
 

@@ -1,11 +1,12 @@
 // Openings that only look, that settle the files, and that break off at each call.
-ghost use Rattle.std.specs.Prelude.{◌≡◌, false, IfOk, IsTrue};
+ghost use Rattle.std.specs.Prelude.{◌≡◌, true, false, IfOk, IsTrue};
 ghost use Rattle.page_spec.specs.Header.{is_page_size};
 
+use crate::files::Named;
 use crate::left::{SETTLES, Settled};
 use crate::seen::{LOOKS, Look};
-use crate::trial::{Told, bytes_of, disk_of, holds, looks, opens};
-use disk_face::{Disk, File};
+use crate::trial::{Told, bytes_of, disk_of, holds, looks, opens, opens_first};
+use disk_face::{Disk, Failed, File};
 use disk_mem::{Call, Made, MemDisk};
 use recover::LookFault;
 use std::alloc::{AllocError, Global};
@@ -45,19 +46,19 @@ fn first_look(alloc: Global, mut disk: MemDisk, page_size: u32) -> Result<Told, 
     looks(alloc, &mut disk, page_size)
 }
 
-/// Whether a look sees what the row says.
+/// What a look sees of a row's files.
 #[tactic(auto, unfolding(page_spec::specs::Header::is_page_size))]
-fn sees(alloc: Global, row: &Look) -> Result<bool, AllocError> {
+fn seen_of(alloc: Global, row: &Look) -> Result<Result<Told, LookFault>, AllocError> {
     let main = main_of(alloc, row)?;
     let mut disk = disk_of(alloc, main, row.one, row.two)?;
     disk.set_journal(row.hot);
-    Ok(first_look(alloc, disk, 4096) == row.told)
+    Ok(first_look(alloc, disk, 4096))
 }
 
 #[test]
 fn what_a_look_sees(rt: HostRuntime) -> Result<(), Fail> {
     for row in LOOKS {
-        assert!(rt; sees(rt.alloc(), row)?);
+        assert_eq!(rt; seen_of(rt.alloc(), row)?, row.told);
     }
     Ok(())
 }
@@ -103,7 +104,7 @@ fn has_headers(disk: &MemDisk, row: &Settled) -> bool {
 /// Whether the files are settled as the row says.
 fn settles(alloc: Global, row: &Settled) -> Result<bool, AllocError> {
     let mut disk = files_of(alloc, row)?;
-    let told = opens(alloc, &mut disk, row.kind);
+    let told = opens_first(alloc, &mut disk, row.kind);
     Ok(
         told == Ok(row.generation)
             && has_headers(&disk, row)
@@ -124,7 +125,7 @@ fn what_settling_leaves(rt: HostRuntime) -> Result<(), Fail> {
 /// Whether an opening of what a crash leaves recovers the row's map.
 fn recovers(alloc: Global, disk: &MemDisk, pick: &[u8], row: &Settled) -> Result<bool, AllocError> {
     let mut left = disk.crash(pick)?;
-    Ok(opens(alloc, &mut left, row.kind).is_ok() && is_map(alloc, &left, row)?)
+    Ok(opens_first(alloc, &mut left, row.kind).is_ok() && is_map(alloc, &left, row)?)
 }
 
 /// Whether the answer is a failed disk exactly where a call failed.
@@ -136,22 +137,53 @@ fn is_told(disk: &MemDisk, told: &Result<u32, LookFault>, row: &Settled) -> bool
     }
 }
 
-/// Whether an opening of which only so many calls go well tells that, and each crash after it leaves the row's map: one that leaves all
-/// bytes that were written, one that leaves zeros of what is unsure, and one that leaves 255.
-fn breaks_off(alloc: Global, row: &Settled, calls: u64) -> Result<bool, AllocError> {
+/// Whether an opening of what a crash leaves recovers the row's map: where it leaves all bytes that were written, and where all that are
+/// unsure are 0, or 255.
+fn recovers_each(alloc: Global, disk: &MemDisk, row: &Settled) -> Result<bool, AllocError> {
     let mut zeros = Vec::new(alloc);
     zeros.resize(UNSURE, 0)?;
     let mut wild = Vec::new(alloc);
     wild.resize(UNSURE, 255)?;
+    Ok(
+        recovers(alloc, disk, &[], row)?
+            && recovers(alloc, disk, &zeros, row)?
+            && recovers(alloc, disk, &wild, row)?,
+    )
+}
+
+/// Whether an opening of which only so many calls go well tells that, and crashes after it leave the row's map.
+fn breaks_off(alloc: Global, row: &Settled, calls: u64) -> Result<bool, AllocError> {
     let mut disk = files_of(alloc, row)?;
     disk.stop_after(calls);
-    let told = opens(alloc, &mut disk, row.kind);
-    Ok(
-        is_told(&disk, &told, row)
-            && recovers(alloc, &disk, &[], row)?
-            && recovers(alloc, &disk, &zeros, row)?
-            && recovers(alloc, &disk, &wild, row)?,
-    )
+    let told = opens_first(alloc, &mut disk, row.kind);
+    Ok(is_told(&disk, &told, row) && recovers_each(alloc, &disk, row)?)
+}
+
+/// Writes a log and doesn't sync it.
+fn write_log(alloc: Global, disk: &mut MemDisk, file: File, named: Named) -> Result<(), Failed>
+    requires { disk.old.attached ≡ true }
+    ensures { disk.new.attached ≡ true }
+{
+    match bytes_of(alloc, named) {
+        Ok(bytes) => disk.write_at(file, 0, &bytes),
+        Err(_) => Err(Failed),
+    }
+}
+
+/// Whether the same holds of files whose logs were written and not synced, once Main is written to: before that a crash may leave what it
+/// might have left without the opening.
+fn breaks_off_later(alloc: Global, row: &Settled, calls: u64) -> Result<bool, AllocError> {
+    let main = bytes_of(alloc, row.main)?;
+    let mut disk = disk_of(alloc, main, Named::Empty, Named::Empty)?;
+    if disk.attach(b"db").is_err()
+        || write_log(alloc, &mut disk, File::Log1, row.one).is_err()
+        || write_log(alloc, &mut disk, File::Log2, row.two).is_err()
+    {
+        return Ok(false);
+    }
+    disk.stop_after(calls);
+    let _ = opens(alloc, &mut disk, row.kind);
+    Ok(count(disk.made(), File::Main, Call::Write) == 0 || recovers_each(alloc, &disk, row)?)
 }
 
 #[test]
@@ -159,6 +191,7 @@ fn an_opening_that_breaks_off_loses_no_page(rt: HostRuntime) -> Result<(), Fail>
     for row in SETTLES {
         for calls in 0..MOST_CALLS {
             assert!(rt; breaks_off(rt.alloc(), row, calls)?);
+            assert!(rt; breaks_off_later(rt.alloc(), row, calls)?);
         }
     }
     Ok(())

@@ -5,7 +5,7 @@ ghost use Rattle.page_spec.specs.Header.{is_page_size};
 ghost use Rattle.recover.specs.Seeing.{IsWholeSeen, IsSeen};
 
 use crate::files::{Named, runs_of};
-use disk_face::{Disk, File};
+use disk_face::{Disk, Failed, File};
 use disk_mem::{FixedSalts, MemDisk};
 use recover::{LookFault, Seen, Setup, StoreKind, look, settle};
 use std::alloc::{AllocError, Global};
@@ -88,14 +88,11 @@ fn settles(alloc: Global, disk: &mut MemDisk, seen: Seen, setup: &Setup) -> Resu
     }
 }
 
-/// Names the files, looks at them and settles them, and tells the generation of log 1.
+/// Looks at the files and settles them, and tells the generation of log 1.
 #[tactic(auto, unfolding(page_spec::specs::Header::is_page_size))]
 pub fn opens(alloc: Global, disk: &mut MemDisk, kind: StoreKind) -> Result<u32, LookFault>
-    requires { disk.old.attached ≡ false }
+    requires { disk.old.attached ≡ true }
 {
-    if disk.attach(b"db").is_err() {
-        return Err(LookFault::Disk);
-    }
     let setup = Setup {
         kind,
         page_size: NEW_SIZE,
@@ -104,6 +101,16 @@ pub fn opens(alloc: Global, disk: &mut MemDisk, kind: StoreKind) -> Result<u32, 
     match look(alloc, disk, &setup) {
         Ok(seen) => settles(alloc, disk, seen, &setup),
         Err(fault) => Err(fault),
+    }
+}
+
+/// The same of files that are still to be named.
+pub fn opens_first(alloc: Global, disk: &mut MemDisk, kind: StoreKind) -> Result<u32, LookFault>
+    requires { disk.old.attached ≡ false }
+{
+    match disk.attach(b"db") {
+        Ok(()) => opens(alloc, disk, kind),
+        Err(Failed) => Err(LookFault::Disk),
     }
 }
 
