@@ -73,9 +73,13 @@ fn files_of(alloc: Global, row: &Settled) -> Result<MemDisk, AllocError>
 
 /// How many calls of a kind there were on a file.
 fn count(made: &[Made], file: File, call: Call) -> usize {
-    made.iter()
-        .filter(|one| one.file == file && one.call == call)
-        .count()
+    let mut calls: usize = 0;
+    for one in made {
+        if one.file == file && one.call == call {
+            calls = calls.saturating_add(1);
+        }
+    }
+    calls
 }
 
 /// The same of each file.
@@ -128,12 +132,11 @@ fn recovers(alloc: Global, disk: &MemDisk, pick: &[u8], row: &Settled) -> Result
     Ok(opens_first(alloc, &mut left, row.kind).is_ok() && is_map(alloc, &left, row)?)
 }
 
-/// Whether the answer is a failed disk exactly where a call failed.
+/// Whether the answer is a failed disk exactly where the last call failed.
 fn is_told(disk: &MemDisk, told: &Result<u32, LookFault>, row: &Settled) -> bool {
-    if disk.made().iter().any(|one| one.failed) {
-        *told == Err(LookFault::Disk)
-    } else {
-        *told == Ok(row.generation)
+    match disk.made().last() {
+        Some(Made { failed: true, .. }) => *told == Err(LookFault::Disk),
+        _ => *told == Ok(row.generation),
     }
 }
 
