@@ -1,6 +1,5 @@
 -- The order in which a commit writes its pages.
 use Rattle.std.specs.Prelude.{ℕ, ◌+◌, ◌<◌, nat_lt, if◌then◌else◌, List, [], ◌∷◌, length, map, slice_index, Contains, All}
-use Rattle.std.specs.List.{slice_index_or}
 use Rattle.std.specs.List.Sorted.{IsStrictlyIncreasing}
 use Rattle.engine_spec.specs.declared.commits.PageImage.{PageImage}
 pub use Rattle.log_commit.specs.Commit.{no_image, in_order}

@@ -1,5 +1,5 @@
 -- The index of a store, whatever room it has.
-use Rattle.std.proofs.Common.{◌≡◌, ◌==◌, Bool, true, false, if◌then◌else◌, ℕ, List, take, drop, refl, sym, ap, subst}
+use Rattle.std.proofs.Common.{◌≡◌, ◌==◌, Bool, true, false, if◌then◌else◌, ℕ, List, take, drop, refl, ap, subst}
 use Rattle.engine_spec.specs.declared.commits.Commit.{Commit}
 use Rattle.engine_spec.specs.TwoLogs.{TwoLogs, other_log}
 use Rattle.wal_index.specs.Index.{Indexed, IndexedLog, log_in, SameLog}

@@ -1,38 +1,36 @@
 -- A store as it begins is whole, and stands on its disk.
-use Rattle.std.proofs.Common.{◌≡◌, ◌⊎◌, inl, inr, ℕ, zero, suc, ◌+◌, ◌-◌, ◌*◌, ◌%◌, ◌^◌, ◌≤◌, ◌<◌, Bool, true, false, ◌||◌, List, [], ◌∷◌, length, take, drop, Option, Some, None, refl, sym, ◌∙◌, ap, subst, arith, length-drop}
-use Rattle.std.specs.Prelude.{All, Contains, nat_eq, IfSome, slice_index_or, ◌↔◌}
+use Rattle.std.proofs.Common.{◌≡◌, inl, inr, ℕ, zero, suc, ◌+◌, ◌*◌, ◌%◌, ◌^◌, ◌≤◌, ◌<◌, true, List, [], ◌∷◌, length, take, drop, Option, Some, None, refl, sym, ◌∙◌, ap, subst, arith, length-drop}
+use Rattle.std.specs.Prelude.{All, Contains, nat_eq, IfSome, slice_index_or}
 use Rattle.std.proofs.lemmas.Bool.Decides.{nat_tests}
 use Rattle.std.proofs.lemmas.List.{length-take}
 use Rattle.std.proofs.lemmas.List.Elements.{All-nil, All-head, All-tail}
-use Rattle.disk_face.specs.declared.disk.File.TheVariants.{Main, Log1, Log2}
+use Rattle.disk_face.specs.declared.disk.File.TheVariants.{Log1, Log2}
 use Rattle.disk_face.specs.Steps.{History, reads}
 use Rattle.page_spec.specs.Header.{is_page_size}
 use Rattle.page_spec.specs.PageMap.{PageMap, page_at, page_sizes}
 use Rattle.log_spec.specs.LogHeader.{is_generation, last_generation}
-use Rattle.crash_spec.specs.Opening.{Opening, Since, rebased}
+use Rattle.crash_spec.specs.Opening.{Since, rebased}
 use Rattle.crash_spec.specs.Known.{known_pieces}
 use Rattle.crash_spec.specs.Logs.{AreBehind}
-use Rattle.crash_spec.specs.Recovered.{overlaid, main_page}
+use Rattle.crash_spec.specs.Recovered.{overlaid}
 use Rattle.crash_spec.specs.Store.{HoldsStore, named_size}
 use Rattle.crash_spec.proofs.Rebased.{rebased_reads}
 use Rattle.engine_spec.specs.declared.commits.Commit.{Commit}
 use Rattle.engine_spec.specs.declared.pins.Pin.{Pin}
-use Rattle.engine_spec.specs.declared.pins.Readers.{Readers}
 use Rattle.engine_spec.specs.Good.{HasSizes}
 use Rattle.engine_spec.specs.History.{statements_of}
 use Rattle.log_spec.specs.Accept.{Frame}
 use Rattle.std.proofs.Math.Seq.{take-nil}
 use Rattle.wal_frames.specs.declared.header.LogHeader.{LogHeader}
-use Rattle.wal_frames.specs.Front.{fields_for}
 use Rattle.log_pair.specs.Pair.{PairView, IsPair, new_pair}
 use Rattle.opening_spec.specs.Found.{OpeningView}
 use Rattle.recover.specs.Ready.{IsReady, IsNewPair}
 use Rattle.recover.proofs.Begun.{ready_holds}
 use Rattle.recover.proofs.NewPages.{one_of}
 use Rattle.recover.proofs.SeenFiles.{legal_size}
-use Rattle.store_spec.specs.Store.{StoreData, two_logs, newest_told, since_of}
+use Rattle.store_spec.specs.Store.{StoreData, newest_told, since_of}
 use Rattle.store_spec.specs.Pins.{PinHolds, mark_at}
-use Rattle.store_spec.specs.Standing.{IsCountedLog, IsWholeStore, IsReadable, AreFronts, IsStoreOn, StandsOn, IsOpenedAt, IsLiveStore, StandsFrom}
+use Rattle.store_spec.specs.Standing.{IsWholeStore, IsReadable, AreFronts, StandsOn, IsOpenedAt, IsLiveStore, StandsFrom}
 use Rattle.store_spec.specs.Steady.{IsSteady}
 use Rattle.store_spec.proofs.NamedLaws.{named_bare}
 use Rattle.store_spec.proofs.Named.{named_none}

@@ -1,5 +1,5 @@
 -- The store's buffer, where a page was read into it or laid in it.
-use Rattle.std.proofs.Common.{◌≡◌, ◌∙◌, ℕ, ◌≤◌, List, [], ◌++◌, ◌*◌, length, take, drop, sym, ap, subst, arith, length-append, length-drop, Option, Some, None, Result, Ok, Err}
+use Rattle.std.proofs.Common.{◌≡◌, ◌∙◌, ℕ, List, ◌++◌, ◌*◌, length, take, drop, sym, subst, arith, Option, Some, None, Result, Ok, Err}
 use Rattle.std.specs.Prelude.{IfSome, OnOk}
 use Rattle.std.proofs.lemmas.List.{take_at}
 use Rattle.disk_face.specs.declared.Failed.{Failed}

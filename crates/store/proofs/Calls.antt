@@ -1,9 +1,7 @@
 -- What a commit of a store does, said as of an engine.
-use Rattle.std.proofs.Common.{◌≡◌, ◌∙◌, ℕ, zero, suc, ◌+◌, ◌*◌, ◌<◌, ◌≤◌, List, ◌++◌, length, false, true, refl, sym, ap, subst, arith, Contains, Option, None, Result, Ok, Err}
+use Rattle.std.proofs.Common.{◌≡◌, ℕ, zero, suc, ◌+◌, ◌*◌, ◌<◌, ◌≤◌, List, length, false, true, refl, arith, Contains, Result, Ok, Err}
 use Rattle.std.proofs.lemmas.List.Elements.{All-contains}
 use Rattle.disk_face.specs.declared.tells.DiskTells.{Ghosts as DiskGhosts}
-use Rattle.page_spec.specs.PageMap.{PageMap}
-use Rattle.crash_spec.specs.Opening.{Opening}
 use Rattle.engine_spec.specs.declared.commits.CommitFault.{CommitFault}
 use Rattle.engine_spec.specs.declared.commits.CommitFault.TheVariants as fault
 use Rattle.engine_spec.specs.declared.commits.Receipt.{Receipt}

@@ -1,9 +1,8 @@
 -- What the index of a history allows: the next commit's number is above all, and commits end inside the frames.
-use Rattle.std.proofs.Common.{◌≡◌, ◌∙◌, ◌⊎◌, inl, inr, ℕ, zero, suc, ◌+◌, ◌-◌, ◌<◌, ◌≤◌, ◌==◌, if◌then◌else◌, List, [], ◌∷◌, ◌++◌, length, take, drop, refl, sym, ap, subst, arith, length-append, length-take, length-drop}
+use Rattle.std.proofs.Common.{◌≡◌, ◌⊎◌, inl, inr, ℕ, zero, suc, ◌+◌, ◌-◌, ◌<◌, ◌≤◌, List, [], ◌∷◌, length, take, drop, sym, subst, arith, length-append, length-take, length-drop}
 use Rattle.std.specs.Prelude.{slice_index}
 use Rattle.engine_spec.specs.declared.commits.Commit.{Commit}
 use Rattle.engine_spec.specs.TwoLogs.{TwoLogs, frames_of, other_log}
-use Rattle.engine_spec.specs.Written.{numbers_from}
 use Rattle.wal_index.specs.Index.{Indexed, IndexedLog, log_in, IsAbove}
 use Rattle.wal_rules.specs.Indexing.{HoldsCommits, IsIndexOf, ends_of}
 use Rattle.wal_rules.proofs.Places.{numbers-length, number-at}

@@ -1,5 +1,5 @@
 -- Where a page stands, in what the store keeps, and for its pair of logs.
-use Rattle.std.proofs.Common.{◌≡◌, ◌∙◌, ◌⊎◌, ℕ, ◌-◌, ◌*◌, ◌≤◌, List, length, sym, ap, subst, Option, Some, None, Contains, get_or}
+use Rattle.std.proofs.Common.{◌≡◌, ◌∙◌, ℕ, ◌-◌, ◌*◌, ◌≤◌, List, length, sym, subst, Option, Some, None, Contains}
 use Rattle.std.specs.Prelude.{IfSome}
 use Rattle.disk_face.specs.declared.disk.File.TheVariants.{Main}
 use Rattle.disk_face.specs.Steps.{History}
@@ -7,9 +7,7 @@ use Rattle.disk_face.specs.Told.{IsInside, IsRead}
 use Rattle.page_spec.specs.PageMap.{page_at}
 use Rattle.engine_spec.specs.declared.pins.Pin.{Pin}
 use Rattle.engine_spec.specs.declared.pins.Readers.{Readers}
-use Rattle.log_pair.specs.Pair.{log_of}
 use Rattle.store_spec.specs.Store.{StoreData, pin_told}
-use Rattle.store_spec.specs.Pins.{PinHolds}
 use Rattle.store_spec.specs.Standing.{IsLiveStore}
 use Rattle.store_spec.specs.Named.{AreNamed}
 use Rattle.store_spec.specs.Reading.{FindsPage, IsFetched, PinIsNamed}

@@ -1,18 +1,14 @@
 -- A commit whose frames were written, and one whose write failed, from a store that is ready.
-use Rattle.std.proofs.Common.{◌≡◌, ◌∙◌, ◌⊎◌, inl, inr, ℕ, ◌+◌, ◌*◌, ◌≤◌, List, [], ◌∷◌, ◌++◌, length, Bool, true, false, refl, sym, ap, subst, arith, Contains, Option, Some, None, Ok, Err}
-use Rattle.std.specs.Prelude.{IfSome, All}
-use Rattle.std.specs.Option.{option_map}
+use Rattle.std.proofs.Common.{◌≡◌, ◌∙◌, inr, ℕ, ◌+◌, ◌≤◌, List, ◌++◌, length, Bool, true, false, refl, sym, ap, subst, arith, Contains, Option, Some, None, Ok, Err}
+use Rattle.std.specs.Prelude.{IfSome}
 use Rattle.std.proofs.lemmas.List.Elements.{All-contains}
 use Rattle.disk_face.specs.declared.tells.DiskTells.{Ghosts as DiskGhosts}
 use Rattle.disk_face.specs.Faults.{Rose}
-use Rattle.disk_face.specs.Steps.{History, reads}
-use Rattle.page_spec.specs.Header.{database_limit}
+use Rattle.disk_face.specs.Steps.{History}
 use Rattle.page_spec.specs.PageMap.{PageMap, page_at}
 use Rattle.log_spec.specs.Frames.{place_behind}
-use Rattle.crash_spec.specs.Opening.{Opening}
 use Rattle.engine_spec.specs.declared.commits.Commit.{Commit}
 use Rattle.engine_spec.specs.declared.commits.CommitFault.TheVariants as fault
-use Rattle.engine_spec.specs.declared.commits.Mode.TheVariants.{Plain}
 use Rattle.engine_spec.specs.declared.commits.PageImage.{PageImage}
 use Rattle.engine_spec.specs.declared.commits.Receipt.TheVariants.{At}
 use Rattle.engine_spec.specs.declared.commits.Who.{Who}
@@ -20,19 +16,16 @@ use Rattle.engine_spec.specs.declared.pins.Pin.{Pin}
 use Rattle.engine_spec.specs.declared.pins.Readers.{Readers}
 use Rattle.engine_spec.specs.Change.{laid}
 use Rattle.engine_spec.specs.Events.{IsClear, IsCommitted, IsStopped, AcceptsCommit, RefusesCommit}
-use Rattle.engine_spec.specs.Good.{Good, MayLayOn}
 use Rattle.engine_spec.specs.History.{NoConflict}
-use Rattle.engine_spec.specs.State.{EngineState}
 use Rattle.engine_spec.specs.Written.{Submitted, commit_of}
 use Rattle.engine_spec.proofs.Here.{during_here}
-use Rattle.log_pair.specs.Pair.{PairView, IsPair, log_of, current_header, next_place}
-use Rattle.wal_index.specs.Index.{Indexed}
+use Rattle.log_pair.specs.Pair.{IsPair, log_of, current_header, next_place}
 use Rattle.laying.specs.Order.{images_of}
 use Rattle.page_face.specs.declared.means.Means.{Ghosts as Meaning}
 use Rattle.page_face.specs.declared.prepared.Prepared.{Prepared}
 use Rattle.page_face.specs.Calls.{IsLaidOn}
 use Rattle.page_face.specs.Prepared.{IsFit, IsGood, change_in, submitted}
-use Rattle.store_spec.specs.Store.{StoreData, KeptStop, newest_told, newest_in, pin_told, pin_map_in, store_state}
+use Rattle.store_spec.specs.Store.{StoreData, KeptStop, newest_told, pin_told, store_state}
 use Rattle.store_spec.specs.Pins.{PinHolds}
 use Rattle.store_spec.specs.Standing.{IsLiveStore, StandsFrom, IsOpenedAt}
 use Rattle.store_spec.specs.Steady.{IsSteady}
@@ -49,7 +42,7 @@ use Rattle.store_spec.proofs.SteadyLaws.{steady_committed, steady_stopped}
 use Rattle.store.specs.declared.plan.Plan.{Plan}
 use Rattle.store.specs.declared.store.Store.{Store}
 use Rattle.store.specs.Planning.{IsPlanOf}
-use Rattle.store.specs.Kept.{kept_of, bare, state_of, IsAble, IsLiveIn}
+use Rattle.store.specs.Kept.{kept_of, bare, state_of, IsAble}
 use Rattle.store.specs.Committing.{kept_stop}
 use Rattle.store.specs.CommittedFrom.{Before, state_before, StoodFrom, LaidOnEach, IsReadyFrom, CommittedFrom}
 use Rattle.store.proofs.Laid.{is_laid, is_whole, wrote_is}

@@ -1,5 +1,5 @@
 -- What is asked where the frames of a commit are written and entered, of a store that is ready, and what entering it makes of the store.
-use Rattle.std.proofs.Common.{◌≡◌, ◌∙◌, ◌⊎◌, inl, inr, ℕ, ◌+◌, ◌*◌, ◌<◌, ◌≤◌, Bool, true, if◌then◌else◌, List, [], ◌∷◌, ◌++◌, length, map, refl, sym, ap, subst, arith, Option, Some, None, All}
+use Rattle.std.proofs.Common.{◌≡◌, ◌∙◌, ◌⊎◌, inl, inr, ℕ, ◌+◌, ◌<◌, ◌≤◌, if◌then◌else◌, List, [], ◌∷◌, ◌++◌, length, sym, ap, subst, arith, Option, None, All}
 use Rattle.std.specs.Option.{option_map}
 use Rattle.std.proofs.lemmas.List.{length-map}
 use Rattle.std.proofs.lemmas.List.Elements.{All-cons, All-map}
@@ -15,7 +15,7 @@ use Rattle.engine_spec.specs.declared.commits.Who.{Who}
 use Rattle.engine_spec.specs.declared.pins.Pin.{Pin}
 use Rattle.engine_spec.specs.declared.pins.Readers.{Readers}
 use Rattle.engine_spec.specs.Events.{IsClear}
-use Rattle.engine_spec.specs.TwoLogs.{frame_limit, current_frames, to_write}
+use Rattle.engine_spec.specs.TwoLogs.{current_frames, to_write}
 use Rattle.wal_frames.specs.Found.{log_file}
 use Rattle.wal_index.specs.Index.{Indexed, IndexedLog, log_in, SameOther}
 use Rattle.log_pair.specs.Pair.{PairView, IsPair, IsLegalLog, log_of, other_number, written_frames}
@@ -32,9 +32,7 @@ use Rattle.store_spec.proofs.Pinning.{frames_count}
 use Rattle.store_spec.proofs.Runs.{counted_of}
 use Rattle.store_spec.proofs.Writing.{IsPairOf}
 use Rattle.store.specs.declared.plan.Plan.{Plan}
-use Rattle.store.specs.declared.store.Halt.{Halt}
 use Rattle.store.specs.declared.store.Store.{Store}
-use Rattle.store.specs.Halts.{KeptPages}
 use Rattle.store.specs.Kept.{kept_of, stop_of, bare, bare_log, IsAble}
 use Rattle.store.specs.Planning.{IsPlanOf, HasPlanRoom}
 use Rattle.store.specs.Committing.{IsIndexed}

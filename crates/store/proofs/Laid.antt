@@ -1,30 +1,28 @@
 -- The pages that a commit writes, over the newest map of a store.
-use Rattle.std.proofs.Common.{◌≡◌, ◌∙◌, ◌⊎◌, inl, inr, ℕ, zero, suc, ◌+◌, ◌≤◌, ◌<◌, ◌==◌, if◌then◌else◌, Bool, true, false, List, [], ◌∷◌, ◌++◌, length, map, take, drop, refl, sym, ap, subst, arith, Contains, Option, Some, None}
+use Rattle.std.proofs.Common.{◌≡◌, ◌∙◌, ℕ, ◌≤◌, ◌==◌, if◌then◌else◌, Bool, true, false, List, [], ◌∷◌, length, map, take, drop, refl, sym, ap, subst, arith, Contains, Option, Some, None}
 use Rattle.std.specs.Prelude.{All, IfSome, ◌*◌}
-use Rattle.std.proofs.lemmas.List.Elements.{All-cons, All-contains, All-map}
+use Rattle.std.proofs.lemmas.List.Elements.{All-cons, All-map}
 use Rattle.disk_face.specs.Steps.{History, reads}
 use Rattle.page_spec.specs.Header.{fields_of, page_size_in}
-use Rattle.page_spec.specs.PageMap.{PageMap, page_at, page_sizes}
+use Rattle.page_spec.specs.PageMap.{PageMap, page_at}
 use Rattle.log_spec.specs.Accept.{Frame, page_number, page_of}
 use Rattle.crash_spec.specs.Recovered.{page_after_frames, main_page, overlaid}
 use Rattle.crash_spec.specs.Store.{named_size}
 use Rattle.opening_spec.proofs.Laid.{header-take}
 use Rattle.engine_spec.specs.declared.commits.Commit.{Commit}
 use Rattle.engine_spec.specs.declared.commits.PageImage.{PageImage}
-use Rattle.engine_spec.specs.declared.commits.Who.{Who}
 use Rattle.engine_spec.specs.declared.pins.Pin.{Pin}
 use Rattle.engine_spec.specs.declared.pins.Readers.{Readers}
-use Rattle.engine_spec.specs.Change.{Change, laid}
+use Rattle.engine_spec.specs.Change.{laid}
 use Rattle.engine_spec.specs.Good.{HasSizes}
-use Rattle.engine_spec.specs.PageSet.{AreDifferent}
 use Rattle.engine_spec.specs.State.{EngineState}
-use Rattle.engine_spec.specs.Written.{Writes, commit_of}
+use Rattle.engine_spec.specs.Written.{Writes}
 use Rattle.engine_spec.proofs.Laying.{legal_size, page_at-length, IsWhole}
 use Rattle.page_face.specs.declared.prepared.Prepared.{Prepared}
-use Rattle.page_face.specs.Prepared.{IsFit, change_in, submitted}
-use Rattle.laying.specs.Order.{IsOrder, in_order, images_of, page_numbers}
+use Rattle.page_face.specs.Prepared.{IsFit, change_in}
+use Rattle.laying.specs.Order.{in_order, images_of, page_numbers}
 use Rattle.laying.proofs.Laws.{laid_is, fits, writes}
-use Rattle.laying.proofs.Orders.{from_1, all_in_order}
+use Rattle.laying.proofs.Orders.{all_in_order}
 use Rattle.log_commit.specs.Commit.{map_under, FitsMap}
 use Rattle.store_spec.specs.Store.{StoreData, current_read, other_read, newest_in, newest_told, view_of}
 use Rattle.store_spec.specs.Named.{AreNamed}

@@ -1,19 +1,18 @@
 -- What was seen of the files makes the store that an opening answers.
-use Rattle.std.proofs.Common.{◌≡◌, ◌⊎◌, inl, inr, ℕ, zero, suc, ◌+◌, ◌-◌, ◌*◌, ◌≤◌, ◌<◌, ◌==◌, Bool, true, false, ◌&&◌, ◌||◌, not, if◌then◌else◌, List, [], ◌∷◌, ◌++◌, length, Option, Some, None, refl, sym, ◌∙◌, ap, subst, arith}
-use Rattle.std.specs.Prelude.{All, IfSome, slice_index_or, slice_set, replicate}
+use Rattle.std.proofs.Common.{◌≡◌, ◌⊎◌, inl, inr, ℕ, zero, suc, ◌+◌, ◌≤◌, ◌<◌, ◌==◌, Bool, true, false, ◌&&◌, ◌||◌, not, if◌then◌else◌, List, [], ◌∷◌, length, Option, Some, None, refl, sym, ◌∙◌, ap, subst, arith}
+use Rattle.std.specs.Prelude.{All, IfSome, slice_set, replicate}
 use Rattle.std.proofs.lemmas.Bool.{eqb-true}
 use Rattle.std.proofs.lemmas.List.{length-set, length-replicate}
 use Rattle.std.proofs.lemmas.List.Elements.{All-nil, All-cons, All-head, All-tail}
 use Rattle.disk_face.specs.declared.disk.File.{File}
 use Rattle.disk_face.specs.declared.disk.File.TheVariants.{Main, Log1, Log2}
-use Rattle.disk_face.specs.Files.{Files, content}
+use Rattle.disk_face.specs.Files.{Files}
 use Rattle.disk_face.specs.Steps.{History, reads}
-use Rattle.disk_face.specs.Image.{Range, IsOutside}
+use Rattle.disk_face.specs.Image.{IsOutside}
 use Rattle.page_spec.specs.PageMap.{PageMap, page_at}
 use Rattle.log_spec.specs.LogHeader.{log_fields, is_signed, foreign_at, IsOurs}
-use Rattle.crash_spec.specs.Marks.{IsLog, number_of}
 use Rattle.crash_spec.specs.Logs.{NoneForeign}
-use Rattle.crash_spec.specs.Opening.{Opening, Since, opening_at, rebased, tail_of}
+use Rattle.crash_spec.specs.Opening.{Since, opening_at, rebased, tail_of}
 use Rattle.crash_spec.specs.Passes.{Passes}
 use Rattle.crash_spec.specs.Recovered.{recovered, pages_from}
 use Rattle.crash_spec.proofs.Passing.{passes_weaker}
@@ -26,7 +25,7 @@ use Rattle.opening_spec.specs.Begins.{MayOpen, view_at}
 use Rattle.opening_spec.proofs.Beginning.{begins, since_begins, map_is_recovered}
 use Rattle.recover.specs.NewPages.{new_pages, new_first_page, first_then_zeros, migrated}
 use Rattle.recover.specs.Ready.{IsReady, IsViewOf, LeavesSettling, first_map}
-use Rattle.recover.specs.Seeing.{SeenView, IsSeen, IsWholeSeen, HasSeen, one_in, two_in, founds, header_fault, wal_fault, foreign_fault, size_fault, room_fault, missing_fault, first_fault, fault_of, files_told, is_new_in, is_ours_in, size_in, map_found}
+use Rattle.recover.specs.Seeing.{SeenView, IsSeen, IsWholeSeen, one_in, two_in, founds, header_fault, wal_fault, foreign_fault, size_fault, room_fault, missing_fault, first_fault, fault_of, is_new_in, is_ours_in, size_in, map_found}
 use Rattle.recover.specs.declared.seen.LookFault.{LookFault}
 use Rattle.recover.specs.declared.setup.StoreKind.TheVariants.{Pages}
 use Rattle.recover.proofs.NewAccepted.{first_long}
@@ -37,7 +36,6 @@ use Rattle.recover.proofs.SeenPages.{seen_pages}
 use Rattle.store_spec.specs.Store.{StoreData, newest_told}
 use Rattle.store_spec.specs.Standing.{IsWholeStore, IsLiveStore, StandsOn, StandsFrom}
 use Rattle.store_spec.specs.Steady.{IsSteady}
-use Rattle.store.specs.declared.open_fault.OpenFault.{OpenFault}
 use Rattle.store.specs.declared.open_fault.OpenFault.TheVariants.{NotPages}
 use Rattle.store.specs.Opening.{IsBeginning, MaySettle, are_pages, wrong_count, fault_by, fault_seen, map_opened, size_opened, no_readers}
 use Rattle.store.proofs.Beginning.{MayBegin, first_kept, kept_is, first_whole, first_stands, first_newest, first_live, first_steady, first_from}

@@ -1,18 +1,16 @@
 -- A store that is ready to write a commit.
-use Rattle.std.proofs.Common.{◌≡◌, ◌∙◌, ℕ, List, ◌++◌, true, false, refl, sym, ap, subst, Contains, Option, Some, None}
-use Rattle.std.specs.Prelude.{IfSome}
+use Rattle.std.proofs.Common.{◌≡◌, ◌∙◌, ℕ, List, ◌++◌, true, false, refl, sym, ap, subst, Option, Some, None}
 use Rattle.std.specs.Option.{option_map}
 use Rattle.disk_face.specs.declared.tells.DiskTells.{Ghosts as DiskGhosts}
 use Rattle.disk_face.specs.Steps.{History}
-use Rattle.page_spec.specs.PageMap.{PageMap}
 use Rattle.engine_spec.specs.declared.pins.Pin.{Pin}
 use Rattle.engine_spec.specs.declared.pins.Readers.{Readers}
 use Rattle.engine_spec.specs.TwoLogs.{may_switch}
 use Rattle.page_face.specs.declared.means.Means.{Ghosts as Meaning}
-use Rattle.store_spec.specs.Store.{StoreData, KeptStop, two_logs, pin_told}
+use Rattle.store_spec.specs.Store.{StoreData, two_logs, pin_told}
 use Rattle.store_spec.specs.Pins.{IsOfCurrent}
 use Rattle.store_spec.specs.Standing.{IsLiveStore, StandsFrom}
-use Rattle.store_spec.specs.Steady.{IsSteady, HasBegun}
+use Rattle.store_spec.specs.Steady.{HasBegun}
 use Rattle.store_spec.specs.Steps.{HasSwitched, HasCleared, gone_over}
 use Rattle.store_spec.proofs.CommitAnswers.{IsReadied, readied_still}
 use Rattle.store_spec.proofs.SteadyLaws.{IsSteadyBut, steady_but, kept_begun, gone_begun, steady_gone}
@@ -22,7 +20,7 @@ use Rattle.store.specs.declared.store.Halt.{Halt}
 use Rattle.store.specs.declared.store.Store.{Store}
 use Rattle.store.specs.Halts.{KeptPages}
 use Rattle.store.specs.Kept.{kept_of, stop_of, bare, IsLiveIn}
-use Rattle.store.specs.CommittedFrom.{Before, before_of, StoodFrom, IsReadyFrom}
+use Rattle.store.specs.CommittedFrom.{before_of, IsReadyFrom}
 
 -- nothing is kept of a write that failed where none did
 pub none_kept : (page_size : ℕ) (spare : KeptPages) (stop : Option Halt) → stop ≡ None → option_map (stop_of page_size spare) stop ≡ None

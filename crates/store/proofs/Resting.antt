@@ -1,19 +1,16 @@
 -- A commit that is refused before its first write, and a store that is as before but for its room, its buffer and its disk's faults.
-use Rattle.std.proofs.Common.{◌≡◌, ◌∙◌, ℕ, ◌≤◌, List, ◌++◌, length, true, refl, sym, ap, subst, inl, Contains, Option, None, Ok, Err}
-use Rattle.std.specs.Prelude.{[]}
+use Rattle.std.proofs.Common.{◌≡◌, ◌∙◌, ℕ, List, ◌++◌, length, refl, sym, ap, subst, inl, Option, Err}
 use Rattle.disk_face.specs.declared.tells.DiskTells.{Ghosts as DiskGhosts}
 use Rattle.disk_face.specs.Faults.{Rose}
 use Rattle.disk_face.specs.Stays.{OnlyReads}
 use Rattle.disk_face.specs.Steps.{History}
 use Rattle.page_spec.specs.PageMap.{PageMap}
-use Rattle.crash_spec.specs.Opening.{Opening}
 use Rattle.engine_spec.specs.declared.commits.CommitFault.{CommitFault}
 use Rattle.engine_spec.specs.declared.commits.CommitFault.TheVariants as fault
 use Rattle.engine_spec.specs.declared.commits.Who.{Who}
 use Rattle.engine_spec.specs.declared.pins.Pin.{Pin}
 use Rattle.engine_spec.specs.declared.pins.Readers.{Readers}
 use Rattle.engine_spec.specs.Events.{IsClear, RefusesCommit}
-use Rattle.engine_spec.specs.State.{EngineState}
 use Rattle.engine_spec.proofs.Here.{during_here}
 use Rattle.page_face.specs.declared.means.Means.{Ghosts as Meaning}
 use Rattle.page_face.specs.declared.prepared.Prepared.{Prepared}
@@ -23,7 +20,7 @@ use Rattle.store_spec.specs.Standing.{IsLiveStore, StandsFrom, IsOpenedAt}
 use Rattle.store_spec.specs.Steady.{IsSteady}
 use Rattle.store.specs.declared.store.Store.{Store}
 use Rattle.store.specs.Kept.{kept_of, state_of, IsAble, IsLiveIn}
-use Rattle.store.specs.CommittedFrom.{Before, before_of, StoodFrom, LeavesFrom, CommittedFrom}
+use Rattle.store.specs.CommittedFrom.{before_of, StoodFrom, LeavesFrom, CommittedFrom}
 
 -- A store that keeps what another does, over a disk that tells the same.
 pub record Rests {D W M : Type 0} (disk : DiskGhosts D) (loans : W → List ℕ) (old new : Store D W M) : Type 0 where

@@ -1,10 +1,9 @@
 -- A commit whose switch to the other log failed.
-use Rattle.std.proofs.Common.{◌≡◌, ◌∙◌, ℕ, List, ◌++◌, true, false, refl, sym, ap, subst, inr, Contains, Option, None, Err}
+use Rattle.std.proofs.Common.{◌≡◌, ◌∙◌, ℕ, List, ◌++◌, true, false, refl, sym, ap, subst, inr, Option, None, Err}
 use Rattle.std.specs.Prelude.{IfSome}
 use Rattle.disk_face.specs.declared.tells.DiskTells.{Ghosts as DiskGhosts}
 use Rattle.disk_face.specs.Faults.{Rose}
 use Rattle.disk_face.specs.Steps.{History, reads}
-use Rattle.crash_spec.specs.Opening.{Opening}
 use Rattle.engine_spec.specs.declared.commits.CommitFault.TheVariants as fault
 use Rattle.engine_spec.specs.declared.commits.PageImage.{PageImage}
 use Rattle.engine_spec.specs.declared.commits.Who.{Who}
@@ -12,7 +11,6 @@ use Rattle.engine_spec.specs.declared.pins.Pin.{Pin}
 use Rattle.engine_spec.specs.declared.pins.Readers.{Readers}
 use Rattle.engine_spec.specs.Change.{laid}
 use Rattle.engine_spec.specs.Events.{IsClear, IsStopped, RefusesCommit}
-use Rattle.engine_spec.specs.State.{EngineState}
 use Rattle.engine_spec.specs.TwoLogs.{may_switch}
 use Rattle.engine_spec.proofs.Here.{during_here}
 use Rattle.log_commit.specs.Commit.{map_under}
@@ -31,7 +29,7 @@ use Rattle.store_spec.proofs.SwitchLaws.{failed_opened, failed_pin, failed_live,
 use Rattle.store.specs.declared.store.Store.{Store}
 use Rattle.store.specs.Kept.{kept_of, state_of, IsAble, IsLiveIn}
 use Rattle.store.specs.Committing.{kept_stop}
-use Rattle.store.specs.CommittedFrom.{before_of, state_before, StoodFrom, CommittedFrom}
+use Rattle.store.specs.CommittedFrom.{before_of, StoodFrom, CommittedFrom}
 use Rattle.store.proofs.Readying.{none_kept}
 
 pub torn_from : {D W M : Type 0} (disk : DiskGhosts D) (loans : W → List ℕ) (means : Meaning M) (readers : Readers) (old new : Store D W M) (pins : List Pin) (pin : Pin) (salt2 : ℕ)
@@ -46,11 +44,14 @@ torn_from disk loans means readers old new pins pin salt2 images prepared who is
   answer = (
     refl,
     during_here (state_of disk old readers)
-        (λ mid. RefusesCommit (λ opening. IsOpenedAt opening kept told) ((first : PageMap) × StoodFrom means (before_of disk loans old) readers first) mid (submitted prepared who) fault.Disk (state_of disk new readers))
-        (clear, rose, inr (subst (λ (k : StoreData). IsStopped (λ opening. IsOpenedAt opening kept told) (state_of disk old readers) (submitted prepared who) (store_state later (disk.faults new.disk) k readers))
-        (sym becomes)
-        (header_stopped_law kept readers pins salt2 told later is.live none_is may images new.pair stop (submitted prepared who) (disk.faults old.disk) (disk.faults new.disk) has
-        (record { log = refl; at = refl; writes = refl; size = refl }) lies))),
+        (λ mid. RefusesCommit (λ opening. IsOpenedAt opening kept told) ((first : PageMap) × StoodFrom means (before_of disk loans old) readers first) mid (submitted prepared who) fault.Disk (state_of disk new readers)) (
+          clear,
+          rose,
+          inr (subst (λ (k : StoreData). IsStopped (λ opening. IsOpenedAt opening kept told) (state_of disk old readers) (submitted prepared who) (store_state later (disk.faults new.disk) k readers))
+              (sym becomes)
+              (header_stopped_law kept readers pins salt2 told later is.live none_is may images new.pair stop (submitted prepared who) (disk.faults old.disk) (disk.faults new.disk) has
+              (record { log = refl; at = refl; writes = refl; size = refl }) lies)),
+        ),
   );
   runs = λ first stood. subst (λ (k : StoreData). StandsFrom (means.sound first) (means.leads first) first later k readers) (sym becomes)
       (failed_runs kept readers pins salt2 told later is.live none_is may new.pair stop has (means.sound first) (means.leads first) first stood);

@@ -1,17 +1,12 @@
 -- What writing a commit does to a store.
-use Rattle.std.specs.Prelude.{◌≡◌, ℕ, ◌+◌, ◌≤◌, Bool, true, List, [], ◌∷◌, ◌++◌, length, map, Option, Some}
+use Rattle.std.specs.Prelude.{◌≡◌, ℕ, List, map}
 use Rattle.std.specs.List.{concat}
 use Rattle.engine_spec.specs.declared.commits.Commit.{Commit}
 use Rattle.engine_spec.specs.declared.commits.PageImage.{PageImage}
 use Rattle.engine_spec.specs.TwoLogs.{TwoLogs}
-use Rattle.wal_index.specs.Index.{Indexed, log_in}
+use Rattle.wal_index.specs.Index.{Indexed}
 use Rattle.wal_rules.specs.Indexing.{IsIndexOf}
-use Rattle.log_pair.specs.Pair.{PairView, other_number}
-use Rattle.laying.specs.Order.{images_of}
-use Rattle.store_spec.specs.Store.{KeptStop, StoreData}
-use Rattle.store.specs.declared.store.Store.{Store}
-use Rattle.store.specs.declared.store.Halt.{Halt}
-use Rattle.store.specs.Kept.{kept_of}
+use Rattle.store_spec.specs.Store.{KeptStop}
 
 -- the bytes of some images, one behind the other
 abbrev pub bytes_of : List PageImage → List ℕ

@@ -1,8 +1,7 @@
 -- What a store keeps, by its fields.
-use Rattle.std.specs.Prelude.{◌≡◌, ℕ, ◌≤◌, true, List, [], length, Contains, Option, None}
+use Rattle.std.specs.Prelude.{◌≡◌, ℕ, true, List, [], length, None}
 use Rattle.std.specs.Option.{option_map}
 use Rattle.disk_face.specs.declared.tells.DiskTells.{Ghosts as DiskGhosts}
-use Rattle.disk_face.specs.Steps.{History}
 use Rattle.engine_spec.specs.declared.pins.Pin.{Pin}
 use Rattle.engine_spec.specs.declared.pins.Readers.{Readers}
 use Rattle.engine_spec.specs.State.{EngineState}

@@ -1,6 +1,5 @@
 -- What an opening asks of a database's files, and how a store begins.
-use Rattle.std.specs.Prelude.{◌≡◌, ◌⊎◌, ℕ, ◌+◌, ◌*◌, ◌≤◌, ◌==◌, max, Bool, true, false, ◌&&◌, ◌||◌, not, if◌then◌else◌, List, [], length, slice_index, Option, Some, None, IfSome, Result, Ok, Err}
-use Rattle.disk_face.specs.declared.tells.DiskTells.{Ghosts as DiskGhosts}
+use Rattle.std.specs.Prelude.{◌≡◌, ◌⊎◌, ℕ, ◌+◌, ◌*◌, ◌==◌, max, Bool, true, false, ◌&&◌, ◌||◌, if◌then◌else◌, [], length, slice_index, Option, Some, None, IfSome, Result, Ok, Err}
 use Rattle.disk_face.specs.Faults.{Rose}
 use Rattle.disk_face.specs.Files.{Files}
 use Rattle.disk_face.specs.Steps.{History, reads}
@@ -12,7 +11,6 @@ use Rattle.opening_spec.specs.Found.{OpeningView}
 use Rattle.engine_spec.specs.declared.pins.Readers.{Readers}
 use Rattle.wal_index.specs.Index.{Indexed, IndexedLog}
 use Rattle.wal_rules.specs.declared.state.LogState.{LogState}
-use Rattle.log_pair.specs.Pair.{PairView}
 use Rattle.recover.specs.NewPages.{new_pages, migrated}
 use Rattle.recover.specs.Ready.{IsNewPair, IsReady}
 use Rattle.recover.specs.Seeing.{SeenView, is_new_in, is_ours_in, size_in, first_in, two_in, map_found, fault_of, files_told, RefusesLook}

@@ -1,5 +1,5 @@
 -- What a commit takes before its first write, and what it writes.
-use Rattle.std.specs.Prelude.{◌≡◌, ℕ, ◌+◌, ◌*◌, ◌≤◌, List, ◌∷◌, length}
+use Rattle.std.specs.Prelude.{◌≡◌, ℕ, ◌*◌, ◌≤◌, List, ◌∷◌, length}
 use Rattle.engine_spec.specs.declared.commits.PageImage.{PageImage}
 use Rattle.laying.specs.Order.{IsOrder, in_order, page_numbers}
 use Rattle.store.specs.declared.plan.Plan.{Plan}

@@ -1,9 +1,6 @@
 -- What a store tells, with the readers beside it.
-use Rattle.std.specs.Prelude.{◌≡◌, ℕ, ◌≤◌, List, ◌++◌, length, Contains}
+use Rattle.std.specs.Prelude.{ℕ, List, ◌++◌, length}
 use Rattle.disk_face.specs.declared.tells.DiskTells.{Ghosts as DiskGhosts}
-use Rattle.page_spec.specs.PageMap.{PageMap, page_sizes}
-use Rattle.crash_spec.specs.Opening.{Opening}
-use Rattle.engine_spec.specs.declared.pins.Pin.{Pin}
 use Rattle.engine_spec.specs.declared.pins.Readers.{Readers}
 use Rattle.engine_spec.specs.Good.{HasSizes}
 use Rattle.page_face.specs.declared.means.Means.{Ghosts as Meaning}

@@ -22,7 +22,12 @@ const MOST_FRAMES: u64 = 4_294_967_295;
 
 impl<D: Disk, W: Salts, M: Means> Store<D, W, M> {
     // The first cause that bars a transaction that wrote, of those that need no memory and no disk.
-    pub(crate) fn bar(&self, readers: &Readers, prepared: &Prepared<M>, who: Who) -> Option<CommitFault>
+    pub(crate) fn bar(
+        &self,
+        readers: &Readers,
+        prepared: &Prepared<M>,
+        who: Who,
+    ) -> Option<CommitFault>
         requires whole { IsWholeStore (kept_of self.now) }
         requires wrote { prepared.now.wrote ≡ true }
         requires least { other_since_of (kept_of self.now) ≤ prepared.now.snap }

@@ -71,7 +71,6 @@ module _ (kept : StoreData) (pair : PairView) (more : List Frame) (before after 
       of_other pair pin after (of.generation ∙ sym (ap (λ (h : LogFields). h.generation) (current_header_of kept.pair pair same)))
       ∙ below_stays pin.mark ∙ sym (of_other kept.pair pin before of.generation)
 
-
 -- Another store, with the same commits before both logs, whose history has gone on.
 pub record GoesOnFrom (kept later : StoreData) (commits : List Commit) : Type 0 where
   pub pair : IsPairOf kept.pair later.pair

@@ -1,5 +1,5 @@
 -- The readers of a store's locks.
-use Rattle.std.proofs.Common.{◌≡◌, ◌∙◌, ℕ, zero, suc, ◌+◌, ◌-◌, ◌<◌, ◌≤◌, ◌==◌, ltb, Bool, true, false, if◌then◌else◌, List, [], ◌∷◌, ◌++◌, refl, sym, ap, subst, inl, inr, arith, Contains}
+use Rattle.std.proofs.Common.{◌≡◌, ◌∙◌, ℕ, ◌+◌, ◌-◌, ◌<◌, ◌≤◌, ◌==◌, ltb, Bool, true, false, if◌then◌else◌, List, [], ◌∷◌, ◌++◌, refl, sym, ap, subst, inl, inr, arith, Contains}
 use Rattle.std.specs.Prelude.{◌⊎◌}
 use Rattle.std.proofs.lemmas.Bool.{eqb-true, ltb-true, ltb-false}
 use Rattle.std.proofs.Math.Nat.{min-eq_left, min-eq_right}
@@ -11,7 +11,7 @@ use Rattle.engine_spec.specs.declared.pins.Readers.{Readers}
 use Rattle.engine_spec.specs.TwoLogs.{readers_of, one_fewer, change_readers, holders, TwoLogs}
 use Rattle.engine_spec.proofs.Conflicts.{contains_cases}
 use Rattle.log_pair.specs.Pair.{other_number}
-use Rattle.store_spec.specs.Pins.{part_of, full_of, same_lock, pins_with, AreCounted}
+use Rattle.store_spec.specs.Pins.{part_of, same_lock, pins_with, AreCounted}
 
 pub same_is : (lock : Lock) → same_lock lock lock ≡ true
 same_is Part1 = refl

@@ -1,30 +1,30 @@
 -- What a store tells, as an engine's laws ask it.
-use Rattle.std.proofs.Common.{◌≡◌, ◌∙◌, ℕ, zero, suc, ◌+◌, ◌<◌, ◌≤◌, ◌==◌, if◌then◌else◌, List, [], ◌∷◌, ◌++◌, length, take, refl, sym, ap, subst, inl, inr, arith, Contains, Option, Some, None, IsSome, All}
+use Rattle.std.proofs.Common.{◌≡◌, ◌∙◌, ℕ, zero, suc, ◌+◌, ◌<◌, ◌≤◌, List, [], ◌∷◌, length, refl, sym, ap, subst, inl, inr, arith, Contains, Option, Some, None, IsSome}
 use Rattle.std.specs.Prelude.{IfSome, MatchOption, ◌⊎◌, ◌≢◌}
 use Rattle.std.specs.Option.{option_map}
 use Rattle.std.proofs.lemmas.List.Elements.{All-contains}
 use Rattle.disk_face.specs.Files.{Files}
 use Rattle.disk_face.specs.Steps.{History, reads}
 use Rattle.disk_face.specs.Image.{MayLeave}
-use Rattle.page_spec.specs.PageMap.{PageMap, page_sizes}
+use Rattle.page_spec.specs.PageMap.{PageMap}
 use Rattle.log_spec.specs.Accept.{Frame, last_size}
-use Rattle.crash_spec.specs.Opening.{Opening, Since, rebased}
+use Rattle.crash_spec.specs.Opening.{Opening, rebased}
 use Rattle.crash_spec.specs.Known.{IsWithoutChance}
 use Rattle.crash_spec.specs.Recovered.{recovered}
 use Rattle.crash_spec.proofs.Rebased.{rebased_reads}
 use Rattle.crash_spec.proofs.StoreMoments.{holds_images}
 use Rattle.engine_spec.specs.declared.pins.Pin.{Pin}
 use Rattle.engine_spec.specs.declared.pins.Readers.{Readers}
-use Rattle.engine_spec.specs.Good.{HasSizes, RunsFrom}
-use Rattle.engine_spec.specs.Leaves.{RecoversNow, may_recover, if_told, kept_map, LeavesOneOf}
+use Rattle.engine_spec.specs.Good.{HasSizes}
+use Rattle.engine_spec.specs.Leaves.{RecoversNow, may_recover, kept_map}
 use Rattle.engine_spec.specs.State.{Stop}
 use Rattle.engine_spec.specs.TwoLogs.{AreLogs, TwoLogs}
 use Rattle.engine_spec.specs.Written.{numbers_from}
 use Rattle.engine_spec.proofs.Conflicts.{contains_cases}
 use Rattle.log_commit.specs.Commit.{map_under}
-use Rattle.store_spec.specs.Store.{StoreData, KeptStop, newest_in, map_over, map_below, newest_told, pin_told, stop_told, store_state, two_logs, view_of}
-use Rattle.store_spec.specs.Pins.{PinHolds, IsOfCurrent, IsOfOther}
-use Rattle.store_spec.specs.Standing.{IsWholeStore, IsLiveStore, StandsFrom, IsRunning, IsStoreOn, IsTornOn, StandsOn, IsOpenedAt}
+use Rattle.store_spec.specs.Store.{StoreData, KeptStop, newest_in, newest_told, pin_told, store_state, two_logs, view_of}
+use Rattle.store_spec.specs.Pins.{PinHolds}
+use Rattle.store_spec.specs.Standing.{IsWholeStore, IsLiveStore, IsRunning, StandsOn, IsOpenedAt}
 
 -- what holds of what is there
 pub of_some : {A : Type 0} (x : Option A) (y : A) (P : A → Type 0) → IfSome x P → x ≡ Some y → P y
@@ -46,10 +46,13 @@ pin_is_told None kept pin some = some
 pin_is_told (Some told) kept pin some = refl
 
 pub bounds : (told : Option History) (kept : StoreData) (pin : Pin) → PinHolds told kept pin → (pin.n ≤ length kept.history) × (1 ≤ pin.size)
-bounds told kept pin holds = (elim holds.place [
-  | inl current ↦ current.front.most
-  | inr other ↦ (let most = other.front.most in omega arith)
-], holds.some)
+bounds told kept pin holds = (
+  elim holds.place [
+    | inl current ↦ current.front.most
+    | inr other ↦ (let most = other.front.most in omega arith)
+  ],
+  holds.some,
+)
 
 pub own_there : (from count number : ℕ) → Contains (numbers_from from count) number → (from ≤ number) × (number < from + count)
 own_there from zero number there = absurd (let low = there.1 in omega arith)
@@ -97,9 +100,13 @@ leaves_now opening kept told (inr torn) image left chance =
 pub recovers : (told : Option History) (faults : ℕ) (kept : StoreData) (readers : Readers) (opening : Opening) → IsOpenedAt opening kept told
     → RecoversNow opening (may_recover (store_state told faults kept readers)) told
 recovers None faults kept readers opening opened = tt
-recovers (Some told) faults kept readers opening (since, is, stands) = (since, is, λ image left chance.
-    subst (λ (files : Files). Contains (maps_in kept files) (recovered image)) (sym (ap reads is ∙ rebased_reads opening.start since))
-    (leaves_now opening kept (rebased opening.start since) stands image left chance))
+recovers (Some told) faults kept readers opening (since, is, stands) = (
+  since,
+  is,
+  λ image left chance.
+      subst (λ (files : Files). Contains (maps_in kept files) (recovered image)) (sym (ap reads is ∙ rebased_reads opening.start since))
+      (leaves_now opening kept (rebased opening.start since) stands image left chance),
+)
 
 -- the logs stand for the history
 pub are_logs : (kept : StoreData) (logs : TwoLogs) → IsWholeStore kept → Some (two_logs kept) ≡ Some logs → AreLogs logs kept.history

@@ -1,13 +1,12 @@
 -- The pin of a reader that comes now, and how the logs stand, from what is counted.
-use Rattle.std.proofs.Common.{◌≡◌, ◌∙◌, ℕ, ◌+◌, ◌-◌, List, length, drop, refl, sym, ap, subst, inl, inr, Some, if◌then◌else◌, ◌==◌}
+use Rattle.std.proofs.Common.{◌≡◌, ◌∙◌, ℕ, length, sym, ap, Some}
 use Rattle.engine_spec.specs.declared.pins.Pin.{Pin}
 use Rattle.engine_spec.specs.declared.pins.Lock.{Lock}
 use Rattle.engine_spec.specs.declared.pins.Logs.{Logs}
-use Rattle.engine_spec.specs.TwoLogs.{TwoLogs, lock_of, frames_of, current_frames, told_logs}
-use Rattle.wal_rules.specs.declared.state.LogState.{LogState}
+use Rattle.engine_spec.specs.TwoLogs.{lock_of, current_frames, told_logs}
 use Rattle.wal_rules.specs.Rules.{logs_with, logs_within}
 use Rattle.log_pair.specs.Pair.{log_of, current_header}
-use Rattle.store_spec.specs.Store.{StoreData, two_logs, since_of}
+use Rattle.store_spec.specs.Store.{StoreData, two_logs}
 use Rattle.store_spec.specs.Pins.{newest_pin}
 use Rattle.store_spec.specs.Standing.{IsWholeStore}
 use Rattle.store_spec.proofs.Runs.{counted_of}

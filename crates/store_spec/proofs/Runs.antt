@@ -1,10 +1,9 @@
 -- Pins of the newest map, and what it means that a store stands for a run.
-use Rattle.std.proofs.Common.{◌≡◌, ◌∙◌, ℕ, zero, suc, ◌+◌, ◌-◌, ◌<◌, ◌≤◌, ◌==◌, Bool, true, false, if◌then◌else◌, eqb, List, [], ◌∷◌, ◌++◌, length, take, drop, refl, sym, ap, subst, inl, inr, arith, Contains, Option, Some, None, All}
-use Rattle.std.specs.Prelude.{IfSome, ◌⊎◌, ◌&&◌}
+use Rattle.std.proofs.Common.{◌≡◌, ◌∙◌, ℕ, zero, suc, ◌+◌, ◌<◌, ◌≤◌, ◌==◌, Bool, true, false, if◌then◌else◌, List, length, take, drop, refl, sym, ap, subst, inl, inr, arith, Contains, Option, Some, None}
+use Rattle.std.specs.Prelude.{IfSome, ◌⊎◌}
 use Rattle.std.proofs.lemmas.Bool.{ne_eqb}
 use Rattle.std.proofs.lemmas.Bool.Decides.{Decides-eqb}
 use Rattle.std.proofs.lemmas.List.{take_all}
-use Rattle.disk_face.specs.Faults.{one_more, last_count}
 use Rattle.disk_face.specs.Files.{Files}
 use Rattle.disk_face.specs.Steps.{History, reads}
 use Rattle.page_spec.specs.PageMap.{PageMap}
@@ -13,20 +12,17 @@ use Rattle.crash_spec.specs.Recovered.{overlaid}
 use Rattle.engine_spec.specs.declared.commits.Mode.{Mode}
 use Rattle.engine_spec.specs.declared.commits.Mode.TheVariants.{Plain, Concurrent}
 use Rattle.engine_spec.specs.declared.pins.Pin.{Pin}
-use Rattle.engine_spec.specs.declared.pins.Lock.{Lock}
 use Rattle.engine_spec.specs.declared.pins.Lock.TheVariants.{Part1, Part1Full2, Part2, Part2Full1}
 use Rattle.engine_spec.specs.declared.pins.Readers.{Readers}
 use Rattle.engine_spec.specs.Good.{HasSizes, RunsFrom, MayLayOn}
 use Rattle.engine_spec.specs.History.{statements_of, NoConflict}
-use Rattle.engine_spec.specs.TwoLogs.{lock_of, frames_of, holders, readers_of}
-use Rattle.engine_spec.specs.Events.{Begins, lock_now, generation_now, frames_now}
+use Rattle.engine_spec.specs.TwoLogs.{frames_of}
 use Rattle.engine_spec.proofs.Laying.{agree_refl}
-use Rattle.wal_index.specs.Index.{log_in}
-use Rattle.log_pair.specs.Pair.{PairView, log_of, other_number, current_header}
-use Rattle.store_spec.specs.Store.{StoreData, frames_in, current_read, other_read, newest_in, map_over, map_below, pin_map_in, newest_told, pin_told, store_state, two_logs, since_of, other_since_of}
-use Rattle.store_spec.specs.Pins.{PinHolds, IsOfCurrent, IsOfOther, IsFront, mark_at, part_of, full_of, newest_pin}
+use Rattle.log_pair.specs.Pair.{PairView, other_number, current_header}
+use Rattle.store_spec.specs.Store.{StoreData, frames_in, current_read, other_read, newest_in, map_over, map_below, pin_map_in, newest_told, pin_told, store_state, two_logs, since_of}
+use Rattle.store_spec.specs.Pins.{PinHolds, mark_at, part_of, full_of, newest_pin}
 use Rattle.store_spec.specs.Standing.{IsWholeStore, IsCountedLog, IsLiveStore, StandsFrom}
-use Rattle.store_spec.proofs.EngineLaws.{held, of_some}
+use Rattle.store_spec.proofs.EngineLaws.{held}
 use Rattle.store_spec.proofs.Counting.{has_reader, holders_are}
 
 pub frames_in-length : (size count : ℕ) (bytes : List ℕ) → length (frames_in size count bytes) ≡ count

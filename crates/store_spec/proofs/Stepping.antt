@@ -1,12 +1,11 @@
 -- What a step of a checkpoint asks of a store, and what it tells of its logs.
-use Rattle.std.proofs.Common.{◌≡◌, ◌∙◌, ℕ, zero, suc, ◌+◌, ◌-◌, ◌*◌, ◌≤◌, List, length, refl, sym, ap, subst, arith, Contains, Option, Some, None, Result, Ok, Err}
+use Rattle.std.proofs.Common.{◌≡◌, ◌∙◌, ℕ, zero, suc, ◌+◌, ◌-◌, ◌*◌, ◌≤◌, List, sym, ap, subst, arith, Contains, Option, Some, None, Result, Ok, Err}
 use Rattle.std.specs.Prelude.{IfOk}
 use Rattle.std.proofs.Math.Nat.{mul-le-mul_right}
 use Rattle.std.proofs.lemmas.List.Elements.{All-contains}
 use Rattle.disk_face.specs.declared.Failed.{Failed}
 use Rattle.disk_face.specs.declared.disk.File.TheVariants.{Main}
-use Rattle.disk_face.specs.Files.{content}
-use Rattle.disk_face.specs.Steps.{History, reads}
+use Rattle.disk_face.specs.Steps.{History}
 use Rattle.disk_face.specs.Told.{IsInside}
 use Rattle.engine_spec.specs.declared.commits.Commit.{Commit}
 use Rattle.engine_spec.specs.declared.pins.Ckpt.{Ckpt}
@@ -20,7 +19,7 @@ use Rattle.wal_rules.specs.declared.state.LogState.{LogState}
 use Rattle.wal_rules.specs.Rules.{logs_with}
 use Rattle.log_pair.specs.Pair.{other_number}
 use Rattle.store_spec.specs.Store.{StoreData, two_logs}
-use Rattle.store_spec.specs.Standing.{IsWholeStore, IsCountedLog, IsReadable}
+use Rattle.store_spec.specs.Standing.{IsWholeStore, IsReadable}
 use Rattle.store_spec.specs.Steps.{stepped}
 use Rattle.store_spec.proofs.Pinning.{state_is}
 use Rattle.store_spec.proofs.Taken.{pages_are, counted_log, other_which}

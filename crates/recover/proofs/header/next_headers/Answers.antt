@@ -1,5 +1,4 @@
-use Rattle.std.proofs.Common.{◌≡◌, ◌+◌, ◌≤◌, ℕ, sym, arith}
-use Rattle.recover.specs.Headers.{next_even}
+use Rattle.std.proofs.Common.{arith}
 use Rattle.recover.proofs.Resets.{even_room}
 use Rattle.recover.proofs.header.next_headers.Goals as goal
 

@@ -1,4 +1,4 @@
-use Rattle.std.proofs.Common.{◌≡◌, ◌+◌, ◌-◌, ◌*◌, ◌≤◌, ◌++◌, take, length}
+use Rattle.std.proofs.Common.{◌≡◌, ◌-◌, ◌*◌, ◌≤◌, ◌++◌, take, length}
 use Rattle.laying.specs.Order.{in_order, page_numbers}
 use Rattle.store.specs.Committing.{bytes_of}
 use Rattle.store.proofs.halt.keep_pages.Given as goal

@@ -1,4 +1,4 @@
-use Rattle.std.proofs.Common.{◌≡◌, ◌+◌, ◌-◌, ◌≤◌, ◌<◌, take, length}
+use Rattle.std.proofs.Common.{◌≡◌, ◌-◌, ◌≤◌, ◌<◌, take, length}
 use Rattle.wal_index.specs.Index.{log_in, SameOther}
 use Rattle.store.specs.Writing.{HasAdded}
 use Rattle.store.proofs.write.add_frames.Given as goal

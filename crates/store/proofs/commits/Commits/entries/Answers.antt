@@ -1,4 +1,4 @@
-use Rattle.std.proofs.Common.{◌≡◌, ◌∙◌, sym, ap, map}
+use Rattle.std.proofs.Common.{◌∙◌, ap, map}
 use Rattle.store.proofs.commits.Commits.entries.Goals as goal
 use Rattle.engine_spec.specs.declared.commits.Commit.{Commit}
 use Rattle.store.specs.Commits.{CommitList}

@@ -1,4 +1,4 @@
-use Rattle.std.proofs.Common.{◌≡◌, ◌∙◌, sym, ap, length, arith}
+use Rattle.std.proofs.Common.{◌∙◌, sym, ap, length, arith}
 use Rattle.store.proofs.commits.Commits.len.Goals as goal
 use Rattle.store.specs.Commits.{CommitList}
 use Rattle.store.proofs.Zipped.{count}

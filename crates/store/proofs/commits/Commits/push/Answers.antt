@@ -1,6 +1,5 @@
-use Rattle.std.proofs.Common.{◌≡◌, ◌∙◌, sym, ap, List, [], ◌∷◌, ◌++◌}
+use Rattle.std.proofs.Common.{◌∙◌, ap, [], ◌∷◌, ◌++◌}
 use Rattle.store.proofs.commits.Commits.push.Goals as goal
-use Rattle.engine_spec.specs.declared.commits.Commit.{Commit}
 use Rattle.store.specs.Commits.{CommitList, commits_of}
 use Rattle.store.proofs.Zipped.{one_more}
 

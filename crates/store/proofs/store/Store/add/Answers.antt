@@ -1,4 +1,4 @@
-use Rattle.std.proofs.Common.{◌≡◌, ◌∙◌, ℕ, sym, ap, subst}
+use Rattle.std.proofs.Common.{◌∙◌, ℕ, sym, ap, subst}
 use Rattle.disk_face.specs.Faults.{Rose}
 use Rattle.store.proofs.store.Store.add.Goals as goal
 use Rattle.engine_spec.specs.Events.{IsClear}
@@ -6,7 +6,7 @@ use Rattle.engine_spec.specs.State.{EngineState}
 use Rattle.page_face.specs.Prepared.{IsFit, submitted}
 use Rattle.store.specs.declared.store.Store.{Store}
 use Rattle.store.specs.CommittedFrom.{Before, CommittedFrom}
-use Rattle.store.proofs.Resting.{Rests, rests_again, rests_planned, rests_laid, lives_on, state_same, before_same, no_memory, not_read}
+use Rattle.store.proofs.Resting.{rests_again, rests_planned, rests_laid, lives_on, state_same, before_same, no_memory, not_read}
 
 pub returns-in-Err : goal.returns-in-Err
 returns-in-Err g c =
@@ -33,21 +33,21 @@ write-requires-clause-live g c = (
 pub write-requires-clause-fit : goal.write-requires-clause-fit
 write-requires-clause-fit g c =
     subst (λ (state : EngineState). IsFit state c.args.pin.now c.args.prepared) (sym (
-      state_same g.D.DiskTells g.W.Salts.loans c.args.readers.now c.args.self.now c.lay.new.self
-          (rests_again g.D.DiskTells g.W.Salts.loans c.args.self.now c.plan.new.self c.lay.new.self
-          (rests_planned g.D.DiskTells g.W.Salts.loans c.args.self.now c.plan.new.self c.plan.ensures.kept c.plan.ensures.same c.plan.ensures.pages c.plan.ensures.bytes)
-          (rests_laid g.D.DiskTells g.W.Salts.loans c.plan.new.self c.lay.new.self c.lay.ensures.same c.lay.ensures.size c.lay.ensures.stays))
-          (c.in-Ok-lay.ensures.faults ∙ ap (λ (store : Store g.row.D.Denot g.row.W.Denot g.row.M.Denot). g.D.DiskTells.faults store.disk) c.plan.ensures.same)
+    state_same g.D.DiskTells g.W.Salts.loans c.args.readers.now c.args.self.now c.lay.new.self
+    (rests_again g.D.DiskTells g.W.Salts.loans c.args.self.now c.plan.new.self c.lay.new.self
+    (rests_planned g.D.DiskTells g.W.Salts.loans c.args.self.now c.plan.new.self c.plan.ensures.kept c.plan.ensures.same c.plan.ensures.pages c.plan.ensures.bytes)
+    (rests_laid g.D.DiskTells g.W.Salts.loans c.plan.new.self c.lay.new.self c.lay.ensures.same c.lay.ensures.size c.lay.ensures.stays))
+    (c.in-Ok-lay.ensures.faults ∙ ap (λ (store : Store g.row.D.Denot g.row.W.Denot g.row.M.Denot). g.D.DiskTells.faults store.disk) c.plan.ensures.same)
     )) c.requires.fit
 
 pub write-requires-clause-clear : goal.write-requires-clause-clear
 write-requires-clause-clear g c =
     subst (λ (state : EngineState). IsClear state (submitted c.args.prepared c.args.who)) (sym (
-      state_same g.D.DiskTells g.W.Salts.loans c.args.readers.now c.args.self.now c.lay.new.self
-          (rests_again g.D.DiskTells g.W.Salts.loans c.args.self.now c.plan.new.self c.lay.new.self
-          (rests_planned g.D.DiskTells g.W.Salts.loans c.args.self.now c.plan.new.self c.plan.ensures.kept c.plan.ensures.same c.plan.ensures.pages c.plan.ensures.bytes)
-          (rests_laid g.D.DiskTells g.W.Salts.loans c.plan.new.self c.lay.new.self c.lay.ensures.same c.lay.ensures.size c.lay.ensures.stays))
-          (c.in-Ok-lay.ensures.faults ∙ ap (λ (store : Store g.row.D.Denot g.row.W.Denot g.row.M.Denot). g.D.DiskTells.faults store.disk) c.plan.ensures.same)
+    state_same g.D.DiskTells g.W.Salts.loans c.args.readers.now c.args.self.now c.lay.new.self
+    (rests_again g.D.DiskTells g.W.Salts.loans c.args.self.now c.plan.new.self c.lay.new.self
+    (rests_planned g.D.DiskTells g.W.Salts.loans c.args.self.now c.plan.new.self c.plan.ensures.kept c.plan.ensures.same c.plan.ensures.pages c.plan.ensures.bytes)
+    (rests_laid g.D.DiskTells g.W.Salts.loans c.plan.new.self c.lay.new.self c.lay.ensures.same c.lay.ensures.size c.lay.ensures.stays))
+    (c.in-Ok-lay.ensures.faults ∙ ap (λ (store : Store g.row.D.Denot g.row.W.Denot g.row.M.Denot). g.D.DiskTells.faults store.disk) c.plan.ensures.same)
     )) c.requires.clear
 
 pub returns-in-Ok-lay : goal.returns-in-Ok-lay

@@ -1,4 +1,4 @@
-use Rattle.std.proofs.Common.{◌≡◌, ◌∙◌, ap, sym}
+use Rattle.std.proofs.Common.{◌∙◌, ap}
 use Rattle.store.proofs.store.Store.begin.Goals as goal
 use Rattle.log_pair.specs.Pair.{log_of}
 use Rattle.store_spec.specs.Store.{two_logs}

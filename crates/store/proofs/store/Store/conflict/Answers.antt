@@ -1,4 +1,4 @@
-use Rattle.std.proofs.Common.{◌≡◌, sym, subst}
+use Rattle.std.proofs.Common.{sym, subst}
 use Rattle.store.proofs.store.Store.conflict.Goals as goal
 use Rattle.engine_spec.specs.declared.commits.Mode.{Mode}
 use Rattle.store_spec.specs.Store.{two_logs}

@@ -1,4 +1,4 @@
-use Rattle.std.proofs.Common.{◌≡◌, ◌∙◌, ◌+◌, ℕ, ap, subst, sym, length}
+use Rattle.std.proofs.Common.{◌+◌, ℕ, subst, sym}
 use Rattle.store.proofs.store.Store.enter.Goals as goal
 use Rattle.wal_index.specs.Index.{log_in, IsAbove}
 use Rattle.store.specs.Writing.{EndWithin}

@@ -1,4 +1,4 @@
-use Rattle.std.proofs.Common.{◌≡◌, ◌∙◌, sym, ap, length}
+use Rattle.std.proofs.Common.{◌∙◌, length}
 use Rattle.store.proofs.store.Store.fetch.Goals as goal
 use Rattle.store.specs.Kept.{kept_of}
 use Rattle.store.proofs.Fetched.{inside, page_read}

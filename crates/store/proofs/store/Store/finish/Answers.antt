@@ -1,4 +1,4 @@
-use Rattle.std.proofs.Common.{◌≡◌, ◌≤◌, ℕ, List, ◌++◌, sym, subst, length, All, true, false}
+use Rattle.std.proofs.Common.{◌≡◌, ◌≤◌, List, ◌++◌, sym, subst, length, All, true, false}
 use Rattle.store.proofs.store.Store.finish.Goals as goal
 use Rattle.engine_spec.specs.declared.commits.PageImage.{PageImage}
 use Rattle.laying.specs.Order.{images_of}

@@ -1,4 +1,4 @@
-use Rattle.std.proofs.Common.{◌≡◌, ◌∙◌, sym, ap, subst, length}
+use Rattle.std.proofs.Common.{◌≡◌, ◌∙◌, sym, ap, length}
 use Rattle.store.proofs.store.Store.goes_over.Goals as goal
 use Rattle.engine_spec.specs.TwoLogs.{TwoLogs, may_switch, current_frames}
 use Rattle.wal_rules.specs.Rules.{logs_within}

@@ -1,4 +1,4 @@
-use Rattle.std.proofs.Common.{◌≡◌, ◌∙◌, ◌++◌, [], ◌∷◌, ℕ, List, ap, subst, sym, length}
+use Rattle.std.proofs.Common.{◌∙◌, ◌++◌, [], ◌∷◌, ℕ, List, ap}
 use Rattle.store.proofs.store.Store.halt.Goals as goal
 use Rattle.laying.specs.Order.{in_order, page_numbers}
 use Rattle.store.specs.Committing.{bytes_of}

@@ -1,4 +1,4 @@
-use Rattle.std.proofs.Common.{◌≡◌, ◌∙◌, ap, sym, refl}
+use Rattle.std.proofs.Common.{◌∙◌, ap, sym, refl}
 use Rattle.store.proofs.store.Store.lay.Goals as goal
 use Rattle.page_face.specs.Prepared.{change_in}
 use Rattle.store_spec.specs.Store.{newest_told}

@@ -1,6 +1,5 @@
-use Rattle.std.proofs.Common.{◌≡◌, ◌∙◌, ap, length, drop, Some}
+use Rattle.std.proofs.Common.{◌≡◌, ◌∙◌, ap, length}
 use Rattle.store.proofs.store.Store.logs.Goals as goal
-use Rattle.engine_spec.specs.declared.pins.Logs.{Logs}
 use Rattle.engine_spec.specs.TwoLogs.{current_frames}
 use Rattle.log_pair.specs.Pair.{log_of}
 use Rattle.store_spec.specs.Store.{two_logs}

@@ -1,4 +1,4 @@
-use Rattle.std.proofs.Common.{◌≡◌, ◌∙◌, ℕ, List, sym, ap, subst, length, take, drop, ◌++◌}
+use Rattle.std.proofs.Common.{◌≡◌, ◌∙◌, ℕ, List, sym, ap, subst, length}
 use Rattle.std.specs.Prelude.{OnOk, IfSome}
 use Rattle.store.proofs.store.Store.read_first.Goals as goal
 use Rattle.page_spec.specs.PageMap.{page_at}

@@ -1,4 +1,4 @@
-use Rattle.std.proofs.Common.{◌≡◌, ◌∙◌, sym}
+use Rattle.std.proofs.Common.{◌∙◌, sym}
 use Rattle.store.proofs.store.Store.ready.Goals as goal
 use Rattle.store.specs.Kept.{kept_of}
 use Rattle.store.proofs.Going.{not_halted, over_ok, over_failed}

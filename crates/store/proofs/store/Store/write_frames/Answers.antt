@@ -1,4 +1,4 @@
-use Rattle.std.proofs.Common.{◌≡◌, ◌∙◌, ◌<◌, ◌≤◌, ℕ, List, ap, subst, sym, length, arith}
+use Rattle.std.proofs.Common.{◌≡◌, ◌∙◌, ◌<◌, ℕ, List, ap, subst, sym, length}
 use Rattle.std.specs.Prelude.{All}
 use Rattle.store.proofs.store.Store.write_frames.Goals as goal
 use Rattle.engine_spec.specs.declared.commits.PageImage.{PageImage}
