@@ -1,0 +1,4 @@
+pub mod Lasts
+pub mod Left
+pub mod Paths
+pub mod Shows
