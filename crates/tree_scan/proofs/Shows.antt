@@ -1,5 +1,5 @@
 -- Levels that have what the pages show.
-use Rattle.std.proofs.Common.{◌≡◌, ℕ, zero, suc, ◌-◌, ◌<◌, ◌≤◌, Bool, true, false, cond, List, [], ◌∷◌, ◌++◌, length, Some, inl, inr, refl, sym, subst, ap, ◌∙◌, arith}
+use Rattle.std.proofs.Common.{◌≡◌, ℕ, zero, suc, ◌-◌, ◌<◌, ◌≤◌, ◌==◌, Bool, true, false, cond, List, [], ◌∷◌, ◌++◌, length, Some, Vec, Global, inl, inr, refl, sym, subst, ap, ◌∙◌, arith}
 use Rattle.std.specs.Prelude.{◌⊎◌, slice_index_or, vec_len}
 use Rattle.std.proofs.lemmas.Bool.{cases_lt}
 use Rattle.std.proofs.lemmas.List.{length-append}
@@ -11,7 +11,7 @@ use Rattle.page_face.specs.Pages.{ReadsAtMost}
 use Rattle.node_spec.specs.Kinds.{is_leaf}
 use Rattle.node_spec.specs.Nodes.{Node}
 use Rattle.node_spec.specs.declared.kinds.Kind.{Kind}
-use Rattle.page_form.specs.Reading.{IsReadPage}
+use Rattle.page_form.specs.Reading.{IsReadPage, Tells}
 use Rattle.tree_spec.specs.Layout.{Each, Item}
 use Rattle.tree_spec.specs.Shown.{Shown}
 use Rattle.tree_spec.proofs.Lists.{each-append}
@@ -150,7 +150,7 @@ pub fresh_level : {P : Type 0} (pages : Ghosts P) (old new : P) (level : Level) 
     → HasNode pages old true page depth level.bytes.items level.node new → IsLevel pages new level
 fresh_level pages old new level page depth is front reading has = record {
   node = has.node;
-  read = record { first = _; tells = subst (λ (u : ℕ). _) (sym reading.edits.usable) has.tells };
+  read = record { first = page == 1; tells = subst (λ (u : ℕ). Tells u (page == 1) level.bytes.items level.node has.node) (sym reading.edits.usable) has.tells };
   shown = λ world told. ap (λ (s : Shown). s.node level.page) (same_shown pages old new reading world told)
       ∙ ap (λ (p : ℕ). (shown_over pages old world).node p) is ∙ has.shown world told;
   inside = omega (arith, front);
@@ -178,7 +178,7 @@ with_child pages old new levels levels_then top child page depth reading is inne
     (
       subst (Each (IsLevel pages new)) (sym are) (each-append (IsLevel pages new) is.above (further top ∷ child ∷ [])
           (weaker (IsLevel pages old) (IsLevel pages new) is.above (level_later pages old new reading) is.others)
-          (record { node = top_then.node; read = top_then.read; shown = top_then.shown; inside = omega (arith, inner.inside, inner.decoded, top_then.read.tells.count) }, fresh_level pages old new child page depth page_is front reading has, tt)),
+          (record { node = top_then.node; read = top_then.read; shown = top_then.shown; inside = omega (arith, inner.inside, inner.decoded, top_then.read.tells.count) }, (fresh_level pages old new child page depth page_is front reading has, tt))),
       omega (arith, ap length are, length-append is.above (further top ∷ child ∷ []), deep, has.may.depth, count_last levels is.above top is.are),
     )
 
@@ -191,3 +191,6 @@ child_comes pages old new levels levels_then top child page reading is inner pag
     (down (pages.usable old) bound (shown_over pages old world) height is.above top child inner.node items (inner.shown world before) inner.inner inner.inside
     (page_is ∙ inner.child_is) front
     (subst (λ (l : List Level). Comes (pages.usable old) bound (shown_over pages old world) height l items) is.are comes))
+
+pub count_levels : (levels : Vec Level Global) → vec_len levels ≡ length levels.items
+count_levels levels = levels.ok.0

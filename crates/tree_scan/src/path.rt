@@ -71,7 +71,7 @@ pub(crate) fn buffer(alloc: Global, spare: &mut Vec<Vec<u8>>, size: usize) -> Re
 
 // Adds a level below the last one, which goes on to the next child.
 pub(crate) fn attach(levels: &mut Vec<Level>, level: Level) -> Result<(), FetchFault>
-    requires { (above : List Level) × ((top : Level) × ((levels.old.items ≡ above ++ top ∷ []) × (top.place ≤ 65536))) }
+    requires { (above : List Level) × ((top : Level) × ((levels.old.items ≡ above ++ top ∷ []) × (top.place < 9223372036854775808))) }
     ensures ok { OnOk result ((above : List Level) (top : Level) → levels.old.items ≡ above ++ top ∷ []
         → levels.new.items ≡ above ++ (record top { place = suc top.place }) ∷ level ∷ []) }
     ensures cause { IfErr result (λ why. why ≡ fault.Memory) }
@@ -88,7 +88,7 @@ pub(crate) fn attach(levels: &mut Vec<Level>, level: Level) -> Result<(), FetchF
 
 // The last level goes on to its next cell.
 pub(crate) fn step_on(levels: &mut Vec<Level>)
-    requires { (above : List Level) × ((top : Level) × ((levels.old.items ≡ above ++ top ∷ []) × (top.place ≤ 65536))) }
+    requires { (above : List Level) × ((top : Level) × ((levels.old.items ≡ above ++ top ∷ []) × (top.place < 9223372036854775808))) }
     ensures { (above : List Level) (top : Level) → levels.old.items ≡ above ++ top ∷ []
         → levels.new.items ≡ above ++ (record top { place = suc top.place }) ∷ [] }
 {
@@ -113,25 +113,27 @@ pub(crate) fn go_down<P: Pages>(
     ensures barred { IfErr result (IsBarred P.PagesTells pages.old pages.new (λ shown. BreaksChild (P.last_page pages.old) shown levels.new.items)) }
     ensures reading { ReadsAtMost P.PagesTells pages.old pages.new }
 {
-    'downs: while top_inner(levels) {
+    'downs: loop {
+        if at_leaf(levels) {
+            return Ok(());
+        }
         match enter(alloc, pages, levels, spare) {
             Ok(()) => (),
             Err(why) => return Err(why),
         }
     }
-    Ok(())
 }
 
-// Whether there is a last level and it is no leaf.
-fn top_inner(levels: &Vec<Level>) -> bool
-    ensures inner { result ≡ true → (above : List Level) × ((top : Level) × ((levels.now.items ≡ above ++ top ∷ []) × (is_leaf top.node.kind ≡ false))) }
-    ensures leaf { result ≡ false → (above : List Level) (top : Level) → levels.now.items ≡ above ++ top ∷ [] → is_leaf top.node.kind ≡ true }
+// Whether there is no level, or the last is a leaf.
+fn at_leaf(levels: &Vec<Level>) -> bool
+    ensures leaf { result ≡ true → (above : List Level) (top : Level) → levels.now.items ≡ above ++ top ∷ [] → is_leaf top.node.kind ≡ true }
+    ensures inner { result ≡ false → (above : List Level) × ((top : Level) × ((levels.now.items ≡ above ++ top ∷ []) × (is_leaf top.node.kind ≡ false))) }
 {
     let count = levels.len();
     if count == 0 {
-        return false;
+        return true;
     }
-    !is_leaf(levels[count - 1].node.kind)
+    is_leaf(levels[count - 1].node.kind)
 }
 
 // Goes down to the child that comes next.
