@@ -19,7 +19,7 @@ use Rattle.overflow.specs.Following.{shown_over}
 use Rattle.tree_read.specs.Ways.{child_at, ShowsNode}
 use Rattle.tree_read.specs.Looking.{HasNode, BarsNode}
 use Rattle.tree_read.proofs.Around.{weaker, each_first, each_last}
-use Rattle.tree_read.proofs.Descents.{same_shown}
+use Rattle.tree_read.proofs.Descents.{same_shown, rose_before}
 use Rattle.tree_read.proofs.Levels.{not_both}
 use Rattle.tree_scan.specs.declared.level.Level.{Level}
 use Rattle.tree_scan.specs.Coming.{Comes, IsSpent}
@@ -194,3 +194,30 @@ child_comes pages old new levels levels_then top child page reading is inner pag
 
 pub count_levels : (levels : Vec Level Global) → vec_len levels ≡ length levels.items
 count_levels levels = levels.ok.0
+
+-- What is said of pages that were only read is said of them before.
+pub to_old : {P : Type 0} (pages : Ghosts P) (old now : P) (F : ℕ → Shown → Type 0) (world : View) → ReadsAtMost pages old now → pages.tells now world
+    → F (pages.usable now) (shown_over pages now world) → F (pages.usable old) (shown_over pages old world)
+to_old pages old now F world reading told is =
+    subst (λ (s : Shown). F (pages.usable old) s) (same_shown pages old now reading world told) (subst (λ (u : ℕ). F u (shown_over pages now world)) reading.edits.usable is)
+
+pub to_now : {P : Type 0} (pages : Ghosts P) (old now : P) (F : ℕ → Shown → Type 0) (world : View) → ReadsAtMost pages old now → pages.tells now world
+    → F (pages.usable old) (shown_over pages old world) → F (pages.usable now) (shown_over pages now world)
+to_now pages old now F world reading told is =
+    subst (λ (s : Shown). F (pages.usable now) s) (sym (same_shown pages old now reading world told)) (subst (λ (u : ℕ). F u (shown_over pages old world)) (sym reading.edits.usable) is)
+
+pub keeps_join : {P : Type 0} (pages : Ghosts P) (old now then : P) (a b c : List Level) → ReadsAtMost pages old now → ReadsAtMost pages now then
+    → KeepsComing pages old a b now → KeepsComing pages now b c then → KeepsComing pages old a c then
+keeps_join pages old now then a b c reading more one two = λ world told bound height items comes.
+    let before = more.edits.narrows world told in
+    to_old pages old now (λ (u : ℕ) (s : Shown). Comes u bound s height c items) world reading before
+    (two world told bound height items (to_now pages old now (λ (u : ℕ) (s : Shown). Comes u bound s height b items) world reading before (one world before bound height items comes)))
+
+pub barred_before : {P : Type 0} (pages : Ghosts P) (old now then : P) (Breaks : ℕ → ℕ → Shown → ℕ → Type 0) (why : FetchFault) → ReadsAtMost pages old now
+    → ReadsAtMost pages now then → IsBarred pages now then (Breaks (pages.usable now) (pages.last_page now)) why → IsBarred pages old then (Breaks (pages.usable old) (pages.last_page old)) why
+barred_before pages old now then Breaks fault.Disk reading more bars = rose_before _ _ _ reading.edits.faults bars
+barred_before pages old now then Breaks (fault.Corrupt page) reading more bars = λ world told.
+    to_old pages old now (λ (u : ℕ) (s : Shown). Breaks u (pages.last_page old) s page) world reading (more.edits.narrows world told)
+    (subst (λ (n : ℕ). Breaks (pages.usable now) n (shown_over pages now world) page) reading.last (bars world told))
+barred_before pages old now then Breaks (fault.Size count) reading more bars = bars
+barred_before pages old now then Breaks fault.Memory reading more bars = tt

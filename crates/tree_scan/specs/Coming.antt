@@ -51,34 +51,17 @@ Comes usable last shown height [] items = items ≡ []
 Comes usable last shown height (level ∷ levels) items =
     Joined shown level.page (Comes usable last shown (one_less height) levels) (λ node. Rests usable last shown height node level.place) items
 
--- an item is before the low bound, behind the high one
-abbrev pub IsBelow : Option ℤ → Item → Type 0
-IsBelow None item = ⊥
-IsBelow (Some low) item = item.key <ℤ low
+-- a key is over a bound
+abbrev pub IsOver : (high : Option ℤ) → ℤ → Type 0
+IsOver None key = ⊥
+IsOver (Some high) key = high <ℤ key
 
-abbrev pub IsAbove : Option ℤ → Item → Type 0
-IsAbove None item = ⊥
-IsAbove (Some high) item = high <ℤ item.key
-
--- an item is in the bounds, which are inclusive
-abbrev pub IsInside : (low high : Option ℤ) → Item → Type 0
-IsInside low high item = (IsBelow low item → ⊥) × (IsAbove high item → ⊥)
-
--- Of items these are up to a high bound, and those behind them aren't.
+-- Of items these are up to a high bound, which is inclusive, and those behind them are over it.
 pub record AreUpTo (high : Option ℤ) (items some : List Item) : Type 0 where
   pub back : List Item
   pub items_are : items ≡ some ++ back
-  pub inside : Each (λ (item : Item). IsAbove high item → ⊥) some
-  pub above : Each (IsAbove high) back
-
--- Of items these are in the bounds, those before them are below, and those behind them above.
-pub record AreWithin (low high : Option ℤ) (items some : List Item) : Type 0 where
-  pub front : List Item
-  pub rest : List Item
-  pub items_are : items ≡ front ++ rest
-  pub below : Each (IsBelow low) front
-  pub not_below : Each (λ (item : Item). IsBelow low item → ⊥) rest
-  pub up_to : AreUpTo high rest some
+  pub inside : Each (λ (item : Item). IsOver high item.key → ⊥) some
+  pub over : Each (λ (item : Item). IsOver high item.key) back
 
 -- A cursor that hasn't begun is before the items of its root's tree.
 pub record AreBefore (usable last : ℕ) (shown : Shown) (cursor : Cursor) (some : List Item) : Type 0 where
@@ -86,7 +69,7 @@ pub record AreBefore (usable last : ℕ) (shown : Shown) (cursor : Cursor) (some
   pub own : List ℕ
   pub items : List Item
   pub tree : IsTree true usable last shown height cursor.root own items
-  pub within : AreWithin cursor.low cursor.high items some
+  pub up_to : AreUpTo cursor.high items some
 
 -- One that has is on its path.
 pub record AreBehind (usable last : ℕ) (shown : Shown) (cursor : Cursor) (some : List Item) : Type 0 where

@@ -17,7 +17,7 @@ use Rattle.tree_read.specs.Ways.{ShowsNode, child_at}
 use Rattle.tree_read.specs.Payloads.{BreaksPayload}
 use Rattle.tree_scan.specs.declared.level.Level.{Level}
 use Rattle.tree_scan.specs.declared.cursor.Cursor.{Cursor}
-use Rattle.tree_scan.specs.Coming.{Comes, AreToCome}
+use Rattle.tree_scan.specs.Coming.{Comes, AreToCome, IsOver}
 
 -- A level has what stands over each world that is told: its bytes show the node that its page shows there.
 pub record IsLevel {P : Type 0} (pages : Ghosts P) (now : P) (level : Level) : Type 0 where
@@ -89,8 +89,37 @@ pub record BreaksNextRow (usable last : ℕ) (shown : Shown) (levels : List Leve
   pub chain : List ℕ
   pub breaks : BreaksPayload usable last shown (cell_at node top.place) top.page chain page
 
+pub data BreaksOn (usable last : ℕ) (shown : Shown) (levels : List Level) (page : ℕ) : Type 0 where
+  AtChild : BreaksChild last shown levels page → BreaksOn usable last shown levels page
+  AtRow : BreaksNextRow usable last shown levels page → BreaksOn usable last shown levels page
+
+pub data BreaksNext (usable last : ℕ) (shown : Shown) (cursor : Cursor) (page : ℕ) : Type 0 where
+  AtRoot : cursor.begun ≡ false → BreaksRoot last shown cursor.root page → BreaksNext usable last shown cursor page
+  Behind : cursor.begun ≡ true → BreaksOn usable last shown cursor.levels.items page → BreaksNext usable last shown cursor page
+
 abbrev pub IsBarred : {P : Type 0} → Ghosts P → P → P → (Shown → (page : ℕ) → Type 0) → FetchFault → Type 0
 IsBarred pages old new Breaks fault.Disk = Rose (pages.faults old) (pages.faults new)
 IsBarred pages old new Breaks (fault.Corrupt page) = (world : View) → pages.tells new world → Breaks (shown_over pages old world) page
 IsBarred pages old new Breaks (fault.Size count) = ⊥
 IsBarred pages old new Breaks fault.Memory = Unit {0}
+
+-- The row at the last level's place was read, and is in the bound.
+pub record TakesRow (usable last : ℕ) (shown : Shown) (height : ℕ) (high : Option ℤ) (levels : List Level) (items : List Item) (pair : ℤ × List Value) : Type 0 where
+  pub item : Item
+  pub rest : List Item
+  pub items_are : items ≡ item ∷ rest
+  pub key : item.key ≡ pair.0
+  pub row : IsRecord item.bytes pair.1
+  pub inside : IsOver high item.key → ⊥
+  pub comes : (levels_then : List Level) → ((above : List Level) (top : Level) → levels ≡ above ++ top ∷ [] → levels_then ≡ above ++ (record top { place = suc top.place }) ∷ [])
+      → Comes usable last shown height levels_then rest
+
+-- the first item to come is over the bound, or there is none
+pub data NoneInside (high : Option ℤ) (items : List Item) : Type 0 where
+  NoItem : items ≡ [] → NoneInside high items
+  FirstOver : (item : Item) (rest : List Item) → items ≡ item ∷ rest → IsOver high item.key → NoneInside high items
+
+abbrev pub TakesNext : {P : Type 0} → Ghosts P → P → (high : Option ℤ) → List Level → Option (ℤ × List Value) → P → Type 0
+TakesNext pages old high levels found new = (world : View) → pages.tells new world → (bound height : ℕ) (items : List Item)
+    → Comes (pages.usable old) bound (shown_over pages old world) height levels items
+    → MatchOption found (NoneInside high items) (TakesRow (pages.usable old) bound (shown_over pages old world) height high levels items)

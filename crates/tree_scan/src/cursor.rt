@@ -9,7 +9,6 @@ use std::alloc::Global;
 pub struct Cursor {
     pub(crate) alloc: Global,
     pub(crate) root: u32,
-    pub(crate) low: Option<i64>,
     pub(crate) high: Option<i64>,
     pub(crate) begun: bool,
     pub(crate) levels: Vec<Level>,

@@ -9,5 +9,6 @@
 mod cursor;
 mod level;
 mod path;
+mod row;
 
 pub use cursor::Cursor;
