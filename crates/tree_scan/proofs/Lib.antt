@@ -2,3 +2,5 @@ pub mod Lasts
 pub mod Left
 pub mod Paths
 pub mod Shows
+pub mod Taking
+pub mod Cursors

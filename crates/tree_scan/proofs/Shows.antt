@@ -44,7 +44,7 @@ not_past : (b : Bool) (n place : ℕ) → b ≡ false → ((cond b n (suc n)) �
 not_past true n place is never = absurd (not_both true refl is)
 not_past false n place is never = elim (cases_lt n place) [ inl less ↦ absurd (never (omega (arith, less))) | inr most ↦ most ]
 
-not_all : (b : Bool) (n place : ℕ) → b ≡ true → ((cond b n (suc n)) ≤ place → ⊥) → place < n
+pub not_all : (b : Bool) (n place : ℕ) → b ≡ true → ((cond b n (suc n)) ≤ place → ⊥) → place < n
 not_all true n place is never = elim (cases_lt place n) [ inl less ↦ less | inr most ↦ absurd (never most) ]
 not_all false n place is never = absurd (not_both false is refl)
 

@@ -1,5 +1,5 @@
 // The row at a path's last place.
-ghost use Rattle.std.specs.Prelude.{◌≡◌, ◌≤◌, ◌<◌, true, false, List, [], ◌∷◌, ◌++◌, length, OnOk, IfOk, IfErr};
+ghost use Rattle.std.specs.Prelude.{◌≡◌, ◌≤◌, ◌<◌, true, false, List, [], ◌∷◌, ◌++◌, length, IfOk, IfErr, MatchOption};
 ghost use Rattle.node_spec.specs.Kinds.{is_leaf};
 ghost use Rattle.node_spec.specs.Cells.{NodeCell};
 ghost use Rattle.page_face.specs.Pages.{ReadsAtMost};
@@ -30,6 +30,7 @@ pub(crate) fn row_at<P: Pages>(
     requires leaf { (above : List Level) (top : Level) → levels.now.items ≡ above ++ top ∷ [] → is_leaf top.node.kind ≡ true }
     requires left { (above : List Level) (top : Level) → levels.now.items ≡ above ++ top ∷ [] → IsSpent top → ⊥ }
     ensures takes { IfOk result (λ found. TakesNext P.PagesTells pages.old high levels.now.items found pages.new) }
+    ensures there { IfOk result (λ found. MatchOption found (Unit {0}) (λ _. 1 ≤ length levels.now.items)) }
     ensures barred { IfErr result (IsBarred P.PagesTells pages.old pages.new (λ shown. BreaksNextRow (P.usable pages.old) (P.last_page pages.old) shown levels.now.items)) }
     ensures reading { ReadsAtMost P.PagesTells pages.old pages.new }
 {
