@@ -1,4 +1,4 @@
-use Rattle.std.proofs.Common.{◌≡◌, ℕ, ℤ, suc, ◌-◌, ◌<◌, ◌≤◌, List, [], ◌∷◌, ◌++◌, length, Some, Ok, Err, ap, ◌∙◌, sym, subst, arith, w64}
+use Rattle.std.proofs.Common.{◌≡◌, ℕ, ℤ, suc, ◌-◌, ◌<◌, ◌≤◌, List, [], ◌∷◌, ◌++◌, length, Some, Ok, Err, ap, ◌∙◌, sym, subst, arith, w64, to_z, of_z}
 use Rattle.std.proofs.lemmas.Int.{to_z-of_z, ints}
 use Rattle.page_form.specs.Reading.{IsReadPage, TellsCell}
 use Rattle.node_spec.specs.Nodes.{cell_at}
@@ -64,7 +64,7 @@ returns-in-Ok-clause-takes g c =
     subst (λ (b : List ℕ). TellsCell (p.usable c.args.pages.now) top.node.kind b c.read_cell-cell.result (cell_at node top.place)) (c.as_slice.ensures.value ∙ sym c.as_slice-2.ensures.value)
     (cell_again _ _ _ _ _ _ _ c.usable_of-usable.ensures.value is_level.read.tells.kind told) in
     let back = to_z-of_z w64 c.read_cell-cell.result.rowid (omega (arith, ints)) in
-    row_taken p c.args.pages.now c.read_row.new.pages levels top c.args.high c.read_cell-cell.result.rowid c.in-Ok.row c.in-Ok.ensures.reading at (λ over. c.is_over.ensures.inside c.if-is_over.false (subst (IsOver c.args.high) (sym back) over)) (sym told.rowid)
+    row_taken p c.args.pages.now c.read_row.new.pages levels top c.args.high (to_z w64 (of_z w64 c.read_cell-cell.result.rowid)) c.in-Ok.row c.in-Ok.ensures.reading at (c.is_over.ensures.inside c.if-is_over.false) (sym (back ∙ told.rowid))
     (c.in-Ok.ensures.row (cell_at node top.place) cell)
 
 pub returns-in-Err-clause-barred : goal.returns-in-Err-clause-barred
