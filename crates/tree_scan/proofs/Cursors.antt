@@ -1,13 +1,10 @@
 -- A cursor from call to call.
-use Rattle.std.proofs.Common.{◌≡◌, ℕ, ℤ, suc, ◌<◌, ◌≤◌, Bool, true, false, List, [], ◌∷◌, ◌++◌, length, Option, None, Some, inl, inr, refl, sym, subst, ap, ◌∙◌, arith}
+use Rattle.std.proofs.Common.{◌≡◌, ℕ, ℤ, ◌<◌, Bool, true, false, List, [], ◌∷◌, ◌++◌, length, Option, None, Some, refl, sym, subst, ap, ◌∙◌, arith}
 use Rattle.std.proofs.lemmas.List.{length-append}
-use Rattle.page_spec.specs.View.{View}
 use Rattle.engine_spec.specs.declared.commits.FetchFault.{FetchFault}
 use Rattle.engine_spec.specs.declared.commits.FetchFault.TheVariants as fault
 use Rattle.page_face.specs.declared.pages_tells.PagesTells.{Ghosts}
 use Rattle.page_face.specs.Pages.{ReadsAtMost}
-use Rattle.page_face.proofs.PageLaws.{reading_same}
-use Rattle.node_spec.specs.Kinds.{is_leaf}
 use Rattle.tree_spec.specs.Shown.{Shown}
 use Rattle.tree_spec.specs.Layout.{Each, Item}
 use Rattle.tree_spec.proofs.Lists.{each-append}
@@ -17,8 +14,8 @@ use Rattle.tree_read.proofs.Around.{each_first, each_last}
 use Rattle.tree_scan.specs.declared.level.Level.{Level}
 use Rattle.tree_scan.specs.declared.cursor.Cursor.{Cursor}
 use Rattle.tree_scan.specs.Coming.{Comes, IsSpent, IsOver, AreUpTo, AreBefore, AreBehind, ToCome, AreToCome}
-use Rattle.tree_scan.specs.Scanning.{IsLevel, AreLevels, KeepsComing, StaysThere, GivesNext, Given, TakesNext, TakesRow, NoneInside, IsBarred, BreaksChild, BreaksNextRow, BreaksOn, BreaksNext}
-use Rattle.tree_scan.proofs.Shows.{done_levels, to_old, to_now, barred_before}
+use Rattle.tree_scan.specs.Scanning.{IsLevel, AreLevels, KeepsComing, StaysThere, GivesNext, Given, TakesNext, NoneInside, IsBarred}
+use Rattle.tree_scan.proofs.Shows.{done_levels, to_old, to_now}
 use Rattle.tree_scan.proofs.Paths.{up, start, further}
 use Rattle.tree_scan.proofs.Lasts.{count_last}
 
@@ -96,8 +93,7 @@ gives_none pages old now new cursor cursor_then begun begun_then high reading mo
     let comes = keeps world before bound b.height b.items b.comes in
     let none = takes world told bound b.height b.items
     (to_now pages old now (λ (u : ℕ) (s : Shown). Comes u bound s b.height cursor_then.levels.items b.items) world reading before comes) in
-    let found = none_first cursor.high b.items some none b.up_to in
-    (
+    let found = none_first cursor.high b.items some none b.up_to in (
       found.0,
       to_come usable bound shown cursor_then [] begun_then (record {
         height = b.height;
@@ -130,6 +126,7 @@ first_of high items rest (s ∷ some) item are inside up_to = record {
   where
     head : s ∷ (some ++ up_to.back) ≡ item ∷ rest → s ≡ item
     head is = cc
+
     tail : s ∷ (some ++ up_to.back) ≡ item ∷ rest → rest ≡ some ++ up_to.back
     tail is = cc
 
@@ -145,14 +142,28 @@ gives_some pages old now new cursor cursor_then levels pair begun begun_then hig
     let comes = keeps world before bound b.height b.items b.comes in
     let taken = takes world told bound b.height b.items
     (to_now pages old now (λ (u : ℕ) (s : Shown). Comes u bound s b.height levels b.items) world reading before comes) in
-    let found = first_of cursor.high b.items taken.rest some taken.item taken.items_are taken.inside b.up_to in
-    (taken.item, (found.others, (found.are, (taken.key, (taken.row, to_come usable bound shown cursor_then found.others begun_then (record {
-      height = b.height;
-      items = taken.rest;
-      comes = to_old pages old now (λ (u : ℕ) (s : Shown). Comes u bound s b.height cursor_then.levels.items taken.rest) world reading before
-          (taken.comes cursor_then.levels.items stepped);
-      up_to = subst (λ (h : Option ℤ). AreUpTo h taken.rest found.others) (sym high) found.up_to;
-    }))))))
+    let found = first_of cursor.high b.items taken.rest some taken.item taken.items_are taken.inside b.up_to in (
+      taken.item,
+      (
+        found.others,
+        (
+          found.are,
+          (
+            taken.key,
+            (
+              taken.row,
+              to_come usable bound shown cursor_then found.others begun_then (record {
+                height = b.height;
+                items = taken.rest;
+                comes = to_old pages old now (λ (u : ℕ) (s : Shown). Comes u bound s b.height cursor_then.levels.items taken.rest) world reading before
+                    (taken.comes cursor_then.levels.items stepped);
+                up_to = subst (λ (h : Option ℤ). AreUpTo h taken.rest found.others) (sym high) found.up_to;
+              }),
+            ),
+          ),
+        ),
+      ),
+    )
 
 -- one step behind another
 pub stays_join : {P : Type 0} (pages : Ghosts P) (old now new : P) (first second third : Cursor) → ReadsAtMost pages old now → ReadsAtMost pages now new
@@ -182,8 +193,7 @@ pub stepped_levels : {P : Type 0} (pages : Ghosts P) (now : P) (levels levels_th
     → top.place < top.node.cells.len → levels_then ≡ above ++ further top ∷ [] → AreLevels pages now levels_then
 stepped_levels pages now levels levels_then above top all are inside are_then =
     let parts = subst (Each (IsLevel pages now)) are all.0 in
-    let at = (each_last (IsLevel pages now) above (top ∷ []) parts).0 in
-    (
+    let at = (each_last (IsLevel pages now) above (top ∷ []) parts).0 in (
       subst (Each (IsLevel pages now)) (sym are_then) (each-append (IsLevel pages now) above (further top ∷ []) (each_first (IsLevel pages now) above (top ∷ []) parts)
           (record { node = at.node; read = at.read; shown = at.shown; inside = omega (arith, inside, at.read.tells.count) }, tt)),
       omega (arith, all.1, count_last levels above top are, ap length are_then, length-append above (further top ∷ [])),

@@ -1,12 +1,12 @@
 -- What is left of one page.
-use Rattle.std.proofs.Common.{◌≡◌, ℕ, zero, suc, ◌<◌, ◌≤◌, true, false, List, [], ◌∷◌, ◌++◌, length, refl, sym, subst, ap, ◌∙◌, arith, append-nil}
+use Rattle.std.proofs.Common.{◌≡◌, ℕ, zero, suc, ◌<◌, ◌≤◌, true, false, List, [], ◌∷◌, ◌++◌, length, refl, sym, ap, ◌∙◌, arith, append-nil}
 use Rattle.std.specs.Prelude.{slice_index_or}
 use Rattle.node_spec.specs.Cells.{NodeCell}
 use Rattle.node_spec.specs.Kinds.{is_leaf}
 use Rattle.node_spec.specs.Nodes.{Node, no_cell}
 use Rattle.tree_spec.specs.Shown.{Shown}
 use Rattle.tree_spec.specs.Layout.{Item}
-use Rattle.tree_spec.specs.Trees.{AreItems, AreUnder, IsItem, IsChild, Content}
+use Rattle.tree_spec.specs.Trees.{IsItem, IsChild, Content}
 use Rattle.tree_read.specs.Ways.{child_at}
 use Rattle.tree_scan.specs.Coming.{LeftItems, LeftUnder, Rests}
 

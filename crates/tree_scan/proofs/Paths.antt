@@ -1,16 +1,15 @@
 -- Steps of a path: a level of which nothing is left, the first item of a leaf, the child that comes next.
-use Rattle.std.proofs.Common.{◌≡◌, ℕ, zero, suc, ◌<◌, ◌≤◌, true, false, List, [], ◌∷◌, ◌++◌, length, Some, refl, sym, subst, ap, ◌∙◌, arith, append-nil, append_assoc}
-use Rattle.std.specs.Prelude.{slice_index_or}
+use Rattle.std.proofs.Common.{◌≡◌, ℕ, zero, suc, ◌<◌, ◌≤◌, true, false, List, [], ◌∷◌, ◌++◌, length, Some, refl, sym, subst, ap, ◌∙◌}
 use Rattle.node_spec.specs.Cells.{NodeCell}
 use Rattle.node_spec.specs.Kinds.{is_leaf}
-use Rattle.node_spec.specs.Nodes.{Node, no_cell, cell_at}
+use Rattle.node_spec.specs.Nodes.{Node, cell_at}
 use Rattle.tree_spec.specs.Shown.{Shown}
 use Rattle.tree_spec.specs.Layout.{Each, Item}
-use Rattle.tree_spec.specs.Trees.{AreItems, AreUnder, IsItem, IsChild, Content, IsTree}
+use Rattle.tree_spec.specs.Trees.{IsItem, IsChild, Content, IsTree}
 use Rattle.tree_read.specs.Ways.{child_at}
 use Rattle.tree_read.proofs.Levels.{one_node, not_both}
 use Rattle.tree_scan.specs.declared.level.Level.{Level}
-use Rattle.tree_scan.specs.Coming.{LeftItems, LeftUnder, one_less, Rests, Joined, Comes}
+use Rattle.tree_scan.specs.Coming.{one_less, Rests, Comes}
 use Rattle.tree_scan.proofs.Left.{first_item, first_child, from_front, rests_none}
 
 -- A level shows a node over one world, of which nothing is left.

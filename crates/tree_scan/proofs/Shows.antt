@@ -1,6 +1,6 @@
 -- Levels that have what the pages show.
-use Rattle.std.proofs.Common.{◌≡◌, ℕ, zero, suc, ◌-◌, ◌<◌, ◌≤◌, ◌==◌, Bool, true, false, cond, List, [], ◌∷◌, ◌++◌, length, Some, Vec, Global, inl, inr, refl, sym, subst, ap, ◌∙◌, arith}
-use Rattle.std.specs.Prelude.{◌⊎◌, slice_index_or, vec_len}
+use Rattle.std.proofs.Common.{◌≡◌, ℕ, suc, ◌-◌, ◌<◌, ◌≤◌, ◌==◌, Bool, true, false, cond, List, [], ◌∷◌, ◌++◌, length, Some, Vec, Global, inl, inr, refl, sym, subst, ap, ◌∙◌, arith}
+use Rattle.std.specs.Prelude.{slice_index_or, vec_len}
 use Rattle.std.proofs.lemmas.Bool.{cases_lt}
 use Rattle.std.proofs.lemmas.List.{length-append}
 use Rattle.page_spec.specs.View.{View}
@@ -10,9 +10,8 @@ use Rattle.page_face.specs.declared.pages_tells.PagesTells.{Ghosts}
 use Rattle.page_face.specs.Pages.{ReadsAtMost}
 use Rattle.node_spec.specs.Kinds.{is_leaf}
 use Rattle.node_spec.specs.Nodes.{Node}
-use Rattle.node_spec.specs.declared.kinds.Kind.{Kind}
 use Rattle.page_form.specs.Reading.{IsReadPage, Tells}
-use Rattle.tree_spec.specs.Layout.{Each, Item}
+use Rattle.tree_spec.specs.Layout.{Each}
 use Rattle.tree_spec.specs.Shown.{Shown}
 use Rattle.tree_spec.proofs.Lists.{each-append}
 use Rattle.overflow.specs.Following.{shown_over}
@@ -23,9 +22,9 @@ use Rattle.tree_read.proofs.Descents.{same_shown, rose_before}
 use Rattle.tree_read.proofs.Levels.{not_both}
 use Rattle.tree_scan.specs.declared.level.Level.{Level}
 use Rattle.tree_scan.specs.Coming.{Comes, IsSpent}
-use Rattle.tree_scan.specs.Scanning.{IsLevel, AreLevels, KeepsComing, IsLast, NamesNext, BreaksChild, IsBarred}
-use Rattle.tree_scan.proofs.Lasts.{at_last, count_last, same_last}
-use Rattle.tree_scan.proofs.Paths.{IsDone, up, down, further}
+use Rattle.tree_scan.specs.Scanning.{IsLevel, AreLevels, KeepsComing, NamesNext, BreaksChild, IsBarred}
+use Rattle.tree_scan.proofs.Lasts.{at_last, count_last}
+use Rattle.tree_scan.proofs.Paths.{IsDone, down, further}
 
 pub level_later : {P : Type 0} (pages : Ghosts P) (old now : P) → ReadsAtMost pages old now → (level : Level) → IsLevel pages old level → IsLevel pages now level
 level_later pages old now reading level is = record {
@@ -87,8 +86,7 @@ pub top_of : {P : Type 0} (pages : Ghosts P) (now : P) (levels above : List Leve
 top_of pages now levels above top at depth all are count is =
     let place : depth - 1 ≡ length above = omega (arith, count, count_last levels above top are) in
     let same : at ≡ top = is ∙ at_last levels above top at [] (depth - 1) are place in
-    let parts : Each (IsLevel pages now) (above ++ top ∷ []) = subst (Each (IsLevel pages now)) are all in
-    (
+    let parts : Each (IsLevel pages now) (above ++ top ∷ []) = subst (Each (IsLevel pages now)) are all in (
       same,
       record {
         above = above;
@@ -174,8 +172,7 @@ pub with_child : {P : Type 0} (pages : Ghosts P) (old new : P) (levels levels_th
     → (is : TopIs pages old levels top) → Inner pages old top page → depth ≡ length levels → child.page ≡ page → child.place ≡ 0
     → HasNode pages old true page depth child.bytes.items child.node new → levels_then ≡ is.above ++ further top ∷ child ∷ [] → AreLevels pages new levels_then
 with_child pages old new levels levels_then top child page depth reading is inner deep page_is front has are =
-    let top_then : IsLevel pages new top = level_later pages old new reading top is.is_level in
-    (
+    let top_then : IsLevel pages new top = level_later pages old new reading top is.is_level in (
       subst (Each (IsLevel pages new)) (sym are) (each-append (IsLevel pages new) is.above (further top ∷ child ∷ [])
           (weaker (IsLevel pages old) (IsLevel pages new) is.above (level_later pages old new reading) is.others)
           (record { node = top_then.node; read = top_then.read; shown = top_then.shown; inside = omega (arith, inner.inside, inner.decoded, top_then.read.tells.count) }, (fresh_level pages old new child page depth page_is front reading has, tt))),

@@ -1,15 +1,13 @@
 -- The row at a path's last place.
-use Rattle.std.proofs.Common.{◌≡◌, ℕ, ℤ, suc, ◌-◌, ◌<◌, ◌≤◌, true, false, List, [], ◌∷◌, ◌++◌, length, Option, None, Some, Ok, Err, refl, sym, subst, ap, ◌∙◌, arith}
+use Rattle.std.proofs.Common.{◌≡◌, ℕ, ℤ, ◌<◌, true, List, [], ◌∷◌, ◌++◌, length, Option, None, Some, Ok, Err, sym, subst, ap, ◌∙◌, arith}
 use Rattle.std.specs.Prelude.{vec_len}
 use Rattle.engine_spec.specs.declared.commits.FetchFault.{FetchFault}
 use Rattle.engine_spec.specs.declared.commits.FetchFault.TheVariants as fault
 use Rattle.page_face.specs.declared.pages_tells.PagesTells.{Ghosts}
 use Rattle.page_face.specs.Pages.{ReadsAtMost}
 use Rattle.node_spec.specs.Kinds.{is_leaf}
-use Rattle.node_spec.specs.Cells.{NodeCell}
-use Rattle.node_spec.specs.Nodes.{Node, cell_at}
+use Rattle.node_spec.specs.Nodes.{cell_at}
 use Rattle.tree_spec.specs.Shown.{Shown}
-use Rattle.tree_spec.specs.Layout.{Item}
 use Rattle.overflow.specs.Following.{shown_over}
 use Rattle.value_form.specs.declared.value.Value.{Value}
 use Rattle.value_form.specs.Record.{IsRecord}
@@ -17,9 +15,9 @@ use Rattle.tree_read.specs.Payloads.{HasReadRow}
 use Rattle.tree_read.proofs.Trees.{whole_payload}
 use Rattle.tree_scan.specs.declared.level.Level.{Level}
 use Rattle.tree_scan.specs.Coming.{Comes, IsSpent, IsOver}
-use Rattle.tree_scan.specs.Scanning.{IsLevel, IsBarred, BreaksNextRow, TakesNext, TakesRow, NoneInside}
+use Rattle.tree_scan.specs.Scanning.{IsBarred, BreaksNextRow, TakesNext, NoneInside}
 use Rattle.tree_scan.proofs.Shows.{TopIs, not_all}
-use Rattle.tree_scan.proofs.Paths.{take_one, further}
+use Rattle.tree_scan.proofs.Paths.{take_one}
 
 -- the last level is a leaf, and has a cell at its place
 pub record AtCell {P : Type 0} (pages : Ghosts P) (now : P) (levels : List Level) (top : Level) : Type 0 where

@@ -1,5 +1,5 @@
 -- What is still to come of a tree, from the pages on which a cursor stands and its place on each.
-use Rattle.std.specs.Prelude.{◌≡◌, ℕ, ℤ, zero, suc, ◌≤◌, ◌<◌, ◌<ℤ◌, Bool, true, false, List, [], ◌∷◌, ◌++◌, length, Option, None, Some, if◌then◌else◌, vec_len}
+use Rattle.std.specs.Prelude.{◌≡◌, ℕ, ℤ, zero, suc, ◌≤◌, ◌<ℤ◌, Bool, true, false, List, [], ◌∷◌, ◌++◌, Option, None, Some, if◌then◌else◌, vec_len}
 use Rattle.node_spec.specs.Kinds.{is_leaf}
 use Rattle.node_spec.specs.Cells.{NodeCell}
 use Rattle.node_spec.specs.Nodes.{Node}

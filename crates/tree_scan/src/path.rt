@@ -48,8 +48,7 @@ fn drop_top(levels: &mut Vec<Level>, spare: &mut Vec<Vec<u8>>)
 }
 
 // Keeps a buffer for later. Where memory for the list of them is wanted it is let go.
-pub(crate) fn keep(spare: &mut Vec<Vec<u8>>, buf: Vec<u8>)
-{
+pub(crate) fn keep(spare: &mut Vec<Vec<u8>>, buf: Vec<u8>) {
     match spare.push(buf) {
         Ok(()) => (),
         Err(_) => (),
@@ -57,7 +56,11 @@ pub(crate) fn keep(spare: &mut Vec<Vec<u8>>, buf: Vec<u8>)
 }
 
 // A buffer of so many bytes: one that was kept, else a new one.
-pub(crate) fn buffer(alloc: Global, spare: &mut Vec<Vec<u8>>, size: usize) -> Result<Vec<u8>, FetchFault>
+pub(crate) fn buffer(
+    alloc: Global,
+    spare: &mut Vec<Vec<u8>>,
+    size: usize,
+) -> Result<Vec<u8>, FetchFault>
     ensures room { IfOk result (λ buf. length buf.items ≡ size) }
     ensures cause { IfErr result (λ why. why ≡ fault.Memory) }
 {

@@ -1,4 +1,4 @@
-use Rattle.std.proofs.Common.{◌≡◌, ℕ, List, [], ◌∷◌, ◌++◌, suc, ◌-◌, ap, ◌∙◌, sym, arith, length, subst, true, false, Bool}
+use Rattle.std.proofs.Common.{◌≡◌, [], ◌-◌, ◌∙◌, sym, arith, length, subst, true, false}
 use Rattle.node_spec.specs.Kinds.{is_leaf}
 use Rattle.tree_scan.specs.declared.level.Level.{Level}
 use Rattle.tree_scan.proofs.Lasts.{cut_last, at_last, count_last}

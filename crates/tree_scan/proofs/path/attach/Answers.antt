@@ -1,4 +1,4 @@
-use Rattle.std.proofs.Common.{◌≡◌, ℕ, List, [], ◌∷◌, ◌++◌, suc, ◌-◌, ap, ◌∙◌, sym, arith, length, append_assoc}
+use Rattle.std.proofs.Common.{◌≡◌, ℕ, List, [], ◌∷◌, ◌++◌, ◌-◌, ap, ◌∙◌, arith, length, append_assoc}
 use Rattle.std.specs.Prelude.{slice_set}
 use Rattle.tree_scan.specs.declared.level.Level.{Level}
 use Rattle.tree_scan.proofs.Lasts.{at_last, put_last, count_last, plus_one}

@@ -1,11 +1,8 @@
-use Rattle.std.proofs.Common.{◌≡◌, ℕ, suc, ◌-◌, ◌<◌, ◌≤◌, List, [], ◌∷◌, ◌++◌, length, false, inl, inr, refl, ap, ◌∙◌, sym, subst, arith, append_assoc}
-use Rattle.std.specs.Prelude.{◌⊎◌}
+use Rattle.std.proofs.Common.{◌≡◌, [], ◌∷◌, ◌++◌, length, false, inl, inr, refl, ◌∙◌, sym, subst, arith, append_assoc}
 use Rattle.node_spec.specs.Kinds.{is_leaf}
-use Rattle.engine_spec.specs.declared.commits.FetchFault.{FetchFault}
-use Rattle.tree_spec.specs.Shown.{Shown}
 use Rattle.tree_scan.specs.declared.level.Level.{Level}
 use Rattle.tree_scan.specs.Coming.{IsSpent}
-use Rattle.tree_scan.specs.Scanning.{BreaksChild, AreLevels, IsBarred}
+use Rattle.tree_scan.specs.Scanning.{BreaksChild, AreLevels}
 use Rattle.tree_scan.proofs.Shows.{top_of, inner_of, names_next, child_barred, with_child, child_comes, levels_later, fresh_left, count_levels}
 use Rattle.tree_scan.proofs.Lasts.{same_last, count_last}
 use Rattle.tree_scan.proofs.Paths.{further}
@@ -33,7 +30,7 @@ returns-in-Err-attach-clause-levels g c = subst (AreLevels g.P.PagesTells c.read
     (levels_later g.P.PagesTells c.args.pages.now c.read_level.new.pages c.args.levels.now.items c.in-Ok.ensures.reading c.requires.levels)
 
 pub returns-in-Err-clause-barred : goal.returns-in-Err-clause-barred
-returns-in-Err-clause-barred g c = 
+returns-in-Err-clause-barred g c =
     let p = g.P.PagesTells in
     let r = c.requires.inner in
     let depth : c.len-depth.result ≡ length c.args.levels.now.items = omega (arith, c.len-depth.ensures, count_levels c.args.levels.now) in
@@ -45,7 +42,7 @@ returns-in-Err-clause-barred g c =
     child_barred p c.args.pages.now c.read_level.new.pages c.args.levels.now.items top child c.len-depth.result c.in-Err.why found.1 inner c.in-Err.ensures.reading depth c.in-Err.ensures.cause
 
 pub attach-requires : goal.attach-requires
-attach-requires g c = 
+attach-requires g c =
     let p = g.P.PagesTells in
     let r = c.requires.inner in
     let depth : c.len-depth.result ≡ length c.args.levels.now.items = omega (arith, c.len-depth.ensures, count_levels c.args.levels.now) in
@@ -57,7 +54,7 @@ attach-requires g c =
     (found.1.above, (top, (found.1.are, omega (arith, inner.inside, inner.decoded, top.node.cells.small, top.node.cells.ok.1))))
 
 pub returns-in-Ok-attach-clause-levels : goal.returns-in-Ok-attach-clause-levels
-returns-in-Ok-attach-clause-levels g c = 
+returns-in-Ok-attach-clause-levels g c =
     let p = g.P.PagesTells in
     let r = c.requires.inner in
     let depth : c.len-depth.result ≡ length c.args.levels.now.items = omega (arith, c.len-depth.ensures, count_levels c.args.levels.now) in
@@ -70,7 +67,7 @@ returns-in-Ok-attach-clause-levels g c =
     found.1 inner depth c.in-Ok.ensures.page.0 c.in-Ok.ensures.page.1 c.in-Ok.ensures.node (c.in-Ok-attach.ensures.ok found.1.above top found.1.are)
 
 pub returns-in-Ok-attach-clause-coming : goal.returns-in-Ok-attach-clause-coming
-returns-in-Ok-attach-clause-coming g c = 
+returns-in-Ok-attach-clause-coming g c =
     let p = g.P.PagesTells in
     let r = c.requires.inner in
     let depth : c.len-depth.result ≡ length c.args.levels.now.items = omega (arith, c.len-depth.ensures, count_levels c.args.levels.now) in

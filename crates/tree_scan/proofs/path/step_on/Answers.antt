@@ -1,8 +1,8 @@
-use Rattle.std.proofs.Common.{◌≡◌, ℕ, List, [], ◌∷◌, ◌++◌, suc, ◌-◌, ap, ◌∙◌, sym, arith, length}
+use Rattle.std.proofs.Common.{◌≡◌, ℕ, [], ◌∷◌, ◌++◌, ◌-◌, ap, ◌∙◌, arith, length}
 use Rattle.std.specs.Prelude.{slice_set}
 use Rattle.tree_scan.specs.declared.level.Level.{Level}
 use Rattle.tree_scan.proofs.Lasts.{at_last, put_last, count_last, plus_one}
-use Rattle.tree_scan.proofs.Paths.{up, further}
+use Rattle.tree_scan.proofs.Paths.{further}
 use Rattle.tree_scan.proofs.path.step_on.Goals as goal
 
 pub returns : goal.returns

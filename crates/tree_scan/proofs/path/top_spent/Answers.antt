@@ -1,5 +1,4 @@
-use Rattle.std.proofs.Common.{◌≡◌, ℕ, List, [], ◌∷◌, ◌++◌, suc, ◌-◌, ap, ◌∙◌, sym, arith, length, subst}
-use Rattle.tree_scan.specs.declared.level.Level.{Level}
+use Rattle.std.proofs.Common.{◌≡◌, [], ◌-◌, ◌∙◌, sym, arith, length, subst}
 use Rattle.tree_scan.specs.Coming.{IsSpent}
 use Rattle.tree_scan.proofs.Lasts.{cut_last, at_last, count_last}
 use Rattle.tree_scan.proofs.path.top_spent.Goals as goal

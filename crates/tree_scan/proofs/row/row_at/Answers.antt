@@ -1,9 +1,8 @@
-use Rattle.std.proofs.Common.{◌≡◌, ℕ, ℤ, suc, ◌-◌, ◌<◌, ◌≤◌, List, [], ◌∷◌, ◌++◌, length, Some, Ok, Err, ap, ◌∙◌, sym, subst, arith, w64, to_z, of_z}
+use Rattle.std.proofs.Common.{◌≡◌, ℕ, List, length, ◌∙◌, sym, subst, arith, w64, to_z, of_z}
 use Rattle.std.proofs.lemmas.Int.{to_z-of_z, ints}
 use Rattle.page_form.specs.Reading.{IsReadPage, TellsCell}
 use Rattle.node_spec.specs.Nodes.{cell_at}
 use Rattle.tree_read.proofs.Descents.{cell_again}
-use Rattle.tree_scan.specs.declared.level.Level.{Level}
 use Rattle.tree_scan.specs.Coming.{IsOver}
 use Rattle.tree_scan.proofs.Lasts.{cut_last}
 use Rattle.tree_scan.proofs.Shows.{top_of, count_levels}

@@ -1,10 +1,9 @@
-use Rattle.std.proofs.Common.{◌≡◌, ℕ, ℤ, suc, ◌-◌, ◌<◌, ◌≤◌, true, false, List, [], ◌∷◌, ◌++◌, length, Option, None, Some, refl, ap, ◌∙◌, sym, subst, arith}
-use Rattle.page_face.proofs.PageLaws.{reading_same, reading_join}
+use Rattle.std.proofs.Common.{ℕ, ℤ, ◌<◌, ◌≤◌, List, length, Option, refl, subst, arith}
+use Rattle.page_face.proofs.PageLaws.{reading_same}
 use Rattle.tree_spec.specs.Shown.{Shown}
 use Rattle.std.specs.Prelude.{MatchOption, vec_len}
 use Rattle.node_spec.specs.Kinds.{is_leaf}
 use Rattle.value_form.specs.declared.value.Value.{Value}
-use Rattle.tree_scan.specs.declared.level.Level.{Level}
 use Rattle.tree_scan.specs.Scanning.{KeepsComing, TakesNext, BreaksOn, BreaksChild, BreaksNextRow}
 use Rattle.tree_read.proofs.Levels.{not_both}
 use Rattle.tree_scan.proofs.Shows.{keeps_join, barred_before, levels_later, not_all}
@@ -113,8 +112,7 @@ returns-in-Ok-Some-clause-fits g c =
     let there : 1 ≤ length levels = subst (λ (f : Option (ℤ × List Value)). MatchOption f (Unit {0}) (λ _. 1 ≤ length levels)) c.in-Ok-Some.field-0-is c.in-Ok-Some.ensures.there in
     let cut = cut_last levels there in
     let inside : cut.top.place < vec_len cut.top.node.cells = not_all (is_leaf cut.top.node.kind) (vec_len cut.top.node.cells) cut.top.place
-    (c.in-Ok.ensures.leaf cut.above cut.top cut.is) (c.in-Ok.ensures.left cut.above cut.top cut.is) in
-    (
+    (c.in-Ok.ensures.leaf cut.above cut.top cut.is) (c.in-Ok.ensures.left cut.above cut.top cut.is) in (
       levels_later p c.go_down.new.pages c.row_at.new.pages c.step_on.new.levels.items c.in-Ok-Some.ensures.reading
           (stepped_levels p c.go_down.new.pages levels c.step_on.new.levels.items cut.above cut.top c.in-Ok.ensures.levels cut.is inside (c.step_on.ensures cut.above cut.top cut.is)),
       λ never. absurd (not_both c.args.self.now.begun c.requires.begun never),

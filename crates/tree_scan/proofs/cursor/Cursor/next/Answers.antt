@@ -1,4 +1,4 @@
-use Rattle.std.proofs.Common.{◌≡◌, ℕ}
+use Rattle.std.proofs.Common.{ℕ}
 use Rattle.tree_spec.specs.Shown.{Shown}
 use Rattle.tree_scan.specs.Scanning.{BreaksOn, BreaksNext}
 use Rattle.tree_scan.proofs.Cursors.{stays_join, gives_join, barred_as}
