@@ -4,3 +4,4 @@ pub mod Paths
 pub mod Shows
 pub mod Taking
 pub mod Cursors
+pub mod Seeks
