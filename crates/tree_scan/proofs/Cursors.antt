@@ -1,5 +1,15 @@
 -- A cursor from call to call.
-use Rattle.std.proofs.Common.{◌≡◌, ℕ, ℤ, ◌<◌, Bool, true, false, List, [], ◌∷◌, ◌++◌, length, Option, None, Some, refl, sym, subst, ap, ◌∙◌, arith}
+use Rattle.std.proofs.Common.{◌≡◌, ℕ, ℤ, ◌<◌, Bool, true, false, List, [], ◌∷◌, ◌++◌, length, Option, None, Some, refl, sym, subst, ap, ◌∙◌, arith, ◌<ℤ◌, ◌≤ℤ◌, ◌==◌}
+use Rattle.std.proofs.lemmas.Int.{ints}
+use Rattle.node_spec.specs.Kinds.{is_leaf}
+use Rattle.node_spec.specs.Nodes.{Node}
+use Rattle.page_form.specs.Reading.{IsReadPage}
+use Rattle.tree_read.specs.Ways.{StandsAt}
+use Rattle.tree_read.specs.Looking.{HasNode}
+use Rattle.tree_read.proofs.Levels.{one_node}
+use Rattle.tree_read.proofs.Descents.{same_shown}
+use Rattle.tree_scan.specs.Seeking.{StartsWhole, StartsAt, Found, IsSought, KeepsSought}
+use Rattle.tree_scan.proofs.Seeks.{at_place, sought_found}
 use Rattle.std.proofs.lemmas.List.{length-append}
 use Rattle.engine_spec.specs.declared.commits.FetchFault.{FetchFault}
 use Rattle.engine_spec.specs.declared.commits.FetchFault.TheVariants as fault
@@ -13,7 +23,7 @@ use Rattle.value_form.specs.declared.value.Value.{Value}
 use Rattle.tree_read.proofs.Around.{each_first, each_last}
 use Rattle.tree_scan.specs.declared.level.Level.{Level}
 use Rattle.tree_scan.specs.declared.cursor.Cursor.{Cursor}
-use Rattle.tree_scan.specs.Coming.{Comes, IsSpent, IsOver, AreUpTo, AreBefore, AreBehind, ToCome, AreToCome}
+use Rattle.tree_scan.specs.Coming.{Comes, IsSpent, IsOver, AreUpTo, AreBefore, AreBehind, ToCome, AreToCome, IsUnder}
 use Rattle.tree_scan.specs.Scanning.{IsLevel, AreLevels, KeepsComing, StaysThere, GivesNext, Given, TakesNext, NoneInside, IsBarred}
 use Rattle.tree_scan.proofs.Shows.{done_levels, to_old, to_now}
 use Rattle.tree_scan.proofs.Paths.{up, start, further}
@@ -28,20 +38,92 @@ pub to_come : (usable last : ℕ) (shown : Shown) (cursor : Cursor) (some : List
     → AreToCome usable last shown cursor some
 to_come usable last shown cursor some is coming = subst (λ (b : Bool). ToCome b usable last shown cursor some) (sym is) coming
 
--- the root was read
-pub begins : {P : Type 0} (pages : Ghosts P) (old new : P) (cursor cursor_then : Cursor) (level : Level) → cursor.begun ≡ false → cursor_then.begun ≡ true
-    → cursor_then.high ≡ cursor.high → cursor_then.levels.items ≡ level ∷ [] → level.page ≡ cursor.root → level.place ≡ 0 → StaysThere pages old cursor cursor_then new
-begins pages old new cursor cursor_then level not_yet begun high levels page front = λ world told bound some coming.
+-- items are divided at a key in one way
+not_less : (key low : ℤ) → key <ℤ low → low ≤ℤ key → ⊥
+not_less key low p q = omega (arith, ints)
+
+one_split : (rowid : ℤ) (front rest other behind : List Item) → front ++ rest ≡ other ++ behind → Each (λ (item : Item). item.key <ℤ rowid) front
+    → Each (λ (item : Item). rowid ≤ℤ item.key) rest → Each (λ (item : Item). item.key <ℤ rowid) other → Each (λ (item : Item). item.key <ℤ rowid → ⊥) behind → rest ≡ behind
+one_split rowid [] rest [] behind is under over less more = is
+one_split rowid [] [] (o ∷ other) behind is under over less more = absurd (none is)
+  where
+    none : [] ≡ o ∷ (other ++ behind) → ⊥
+    none is = cc
+one_split rowid [] (r ∷ rest) (o ∷ other) behind is under over less more = absurd (not_less o.key rowid less.0 (subst (λ (i : Item). rowid ≤ℤ i.key) (head is) over.0))
+  where
+    head : r ∷ rest ≡ o ∷ (other ++ behind) → r ≡ o
+    head is = cc
+one_split rowid (f ∷ front) rest [] [] is under over less more = absurd (none is)
+  where
+    none : f ∷ (front ++ rest) ≡ [] → ⊥
+    none is = cc
+one_split rowid (f ∷ front) rest [] (b ∷ behind) is under over less more = absurd (more.0 (subst (λ (i : Item). i.key <ℤ rowid) (head is) under.0))
+  where
+    head : f ∷ (front ++ rest) ≡ b ∷ behind → f ≡ b
+    head is = cc
+one_split rowid (f ∷ front) rest (o ∷ other) behind is under over less more = one_split rowid front rest other behind (tail is) under.1 over less.1 more
+  where
+    tail : f ∷ (front ++ rest) ≡ o ∷ (other ++ behind) → front ++ rest ≡ other ++ behind
+    tail is = cc
+
+first_comes : (usable bound : ℕ) (shown : Shown) (low : Option ℤ) (levels : List Level) (height : ℕ) (items front rest : List Item) → items ≡ front ++ rest
+    → Each (λ (item : Item). IsUnder low item.key) front → Each (λ (item : Item). IsUnder low item.key → ⊥) rest → (low ≡ None → Comes usable bound shown height levels items)
+    → ((rowid : ℤ) → low ≡ Some rowid → Found usable bound shown height rowid levels items) → Comes usable bound shown height levels rest
+first_comes usable bound shown None levels height items [] rest are under not_under whole at =
+    subst (λ (l : List Item). Comes usable bound shown height levels l) are (whole refl)
+first_comes usable bound shown None levels height items (f ∷ front) rest are under not_under whole at = absurd under.0
+first_comes usable bound shown (Some rowid) levels height items front rest are under not_under whole at =
+    let found = at rowid refl in
+    subst (λ (l : List Item). Comes usable bound shown height levels l)
+    (one_split rowid found.front found.rest front rest (sym found.items_are ∙ are) found.under found.over under not_under) found.comes
+
+-- the first path was gone
+pub begins : {P : Type 0} (pages : Ghosts P) (old new : P) (cursor cursor_then : Cursor) → cursor.begun ≡ false → cursor_then.begun ≡ true
+    → cursor_then.high ≡ cursor.high → (cursor.low ≡ None → StartsWhole pages old cursor.root cursor_then.levels.items new)
+    → ((rowid : ℤ) → cursor.low ≡ Some rowid → StartsAt pages old cursor.root rowid cursor_then.levels.items new) → StaysThere pages old cursor cursor_then new
+begins pages old new cursor cursor_then not_yet begun high whole at = λ world told bound some coming.
     let usable = pages.usable old in
     let shown = shown_over pages old world in
     let before : AreBefore usable bound shown cursor some = subst (λ (b : Bool). ToCome b usable bound shown cursor some) not_yet coming in
     to_come usable bound shown cursor_then some begun (record {
       height = before.height;
-      items = before.items;
-      comes = subst (λ (l : List Level). Comes usable bound shown before.height l before.items) (sym levels)
-          (start usable bound shown before.height cursor.root before.own before.items level page front before.tree);
-      up_to = subst (λ (h : Option ℤ). AreUpTo h before.items some) (sym high) before.up_to;
+      items = before.rest;
+      comes = first_comes usable bound shown cursor.low cursor_then.levels.items before.height before.items before.front before.rest before.items_are before.under before.not_under
+          (λ is. whole is world told bound before.height before.own before.items before.tree) (λ rowid is. at rowid is world told bound before.height before.own before.items before.tree);
+      up_to = subst (λ (h : Option ℤ). AreUpTo h before.rest some) (sym high) before.up_to;
     })
+
+pub starts_whole : {P : Type 0} (pages : Ghosts P) (old new : P) (root : ℕ) (level : Level) (levels : List Level) → level.page ≡ root → level.place ≡ 0 → levels ≡ level ∷ []
+    → StartsWhole pages old root levels new
+starts_whole pages old new root level levels page front are = λ world told bound height own items tree.
+    subst (λ (l : List Level). Comes (pages.usable old) bound (shown_over pages old world) height l items) (sym are)
+    (start (pages.usable old) bound (shown_over pages old world) height root own items level page front tree)
+
+pub starts_at : {P : Type 0} (pages : Ghosts P) (old now then : P) (rowid : ℤ) (root : ℕ) (level : Level) (pushed levels : List Level) → ReadsAtMost pages old now
+    → ReadsAtMost pages now then → level.page ≡ root → HasNode pages old true root 0 level.bytes.items level.node now
+    → ((node : Node) → IsReadPage (pages.usable old) level.bytes.items level.node node → StandsAt node.cells rowid level.place) → pushed ≡ level ∷ []
+    → KeepsSought pages now rowid pushed levels then → Each (IsLevel pages then) levels
+    → ((above : List Level) (top : Level) → levels ≡ above ++ top ∷ [] → is_leaf top.node.kind ≡ true) → StartsAt pages old root rowid levels then
+starts_at pages old now then rowid root level pushed levels reading more page has stands are keeps all leaf = λ world told bound height own items tree.
+    let usable = pages.usable old in
+    let shown = shown_over pages old world in
+    let before = more.edits.narrows world told in
+    let same : has.node ≡ tree.node = one_node shown root has.node tree.node (has.shown world before) tree.holds in
+    let first : IsSought usable bound shown height rowid pushed items = record {
+      above = [];
+      top = level;
+      are = are;
+      sought = at_place usable bound shown height rowid level tree.node tree.below items (ap (λ (p : ℕ). shown.node p) page ∙ tree.holds) tree.content
+          (subst (λ (n : Node). StandsAt n.cells rowid level.place) same (stands has.node (record { first = root == 1; tells = has.tells })));
+    } in
+    let last = to_old pages old now (λ (u : ℕ) (s : Shown). IsSought u bound s height rowid levels items) world reading before
+    (keeps world told bound height items (to_now pages old now (λ (u : ℕ) (s : Shown). IsSought u bound s height rowid pushed items) world reading before first)) in
+    let top = (each_last (IsLevel pages then) last.above (last.top ∷ []) (subst (Each (IsLevel pages then)) last.are all)).0 in
+    let holds : shown.node last.top.page ≡ Some top.node =
+    ap (λ (s : Shown). s.node last.top.page) (sym (same_shown pages old now reading world before)) ∙ ap (λ (s : Shown). s.node last.top.page) (sym (same_shown pages now then more world told))
+    ∙ top.shown world told in
+    subst (λ (l : List Level). Found usable bound shown height rowid l items) (sym last.are)
+    (sought_found usable bound shown height rowid last.above last.top top.node items holds (ap is_leaf (sym top.read.tells.kind) ∙ leaf last.above last.top last.are) last.sought)
 
 -- gone up
 pub keeps_up : {P : Type 0} (pages : Ghosts P) (old : P) (levels left passed : List Level) → ReadsAtMost pages old old → levels ≡ left ++ passed → Each (IsLevel pages old) levels

@@ -15,7 +15,7 @@ use Rattle.tree_read.proofs.Leaves.{first_below}
 use Rattle.tree_read.proofs.Levels.{one_node, not_both}
 use Rattle.tree_scan.specs.declared.level.Level.{Level}
 use Rattle.tree_scan.specs.Coming.{LeftItems, LeftUnder, Rests, Comes, one_less}
-use Rattle.tree_scan.specs.Seeking.{SoughtLast, SoughtAbove, Sought}
+use Rattle.tree_scan.specs.Seeking.{SoughtLast, SoughtAbove, Sought, Found}
 use Rattle.tree_scan.proofs.Left.{first_child, at_most}
 use Rattle.tree_scan.proofs.Paths.{further}
 
@@ -169,15 +169,6 @@ sought_down usable last shown height rowid (level ∷ above) top child node chil
   left = sought.left;
   over = sought.over;
 }
-
--- at a leaf
-pub record Found (usable last : ℕ) (shown : Shown) (height : ℕ) (rowid : ℤ) (levels : List Level) (items : List Item) : Type 0 where
-  pub front : List Item
-  pub rest : List Item
-  pub items_are : items ≡ front ++ rest
-  pub comes : Comes usable last shown height levels rest
-  pub under : Each (λ (item : Item). item.key <ℤ rowid) front
-  pub over : Each (λ (item : Item). rowid ≤ℤ item.key) rest
 
 pub sought_found : (usable last : ℕ) (shown : Shown) (height : ℕ) (rowid : ℤ) (above : List Level) (top : Level) (node : Node) (items : List Item) → shown.node top.page ≡ Some node
     → is_leaf node.kind ≡ true → Sought usable last shown height rowid above top items → Found usable last shown height rowid (above ++ top ∷ []) items

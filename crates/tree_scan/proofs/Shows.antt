@@ -1,5 +1,5 @@
 -- Levels that have what the pages show.
-use Rattle.std.proofs.Common.{◌≡◌, ℕ, suc, ◌-◌, ◌<◌, ◌≤◌, ◌==◌, Bool, true, false, cond, List, [], ◌∷◌, ◌++◌, length, Some, Vec, Global, inl, inr, refl, sym, subst, ap, ◌∙◌, arith}
+use Rattle.std.proofs.Common.{◌≡◌, ℕ, suc, ◌-◌, ◌<◌, ◌≤◌, ◌==◌, Bool, true, false, cond, List, [], ◌∷◌, ◌++◌, length, Some, Vec, Global, inl, inr, refl, sym, subst, ap, ◌∙◌, arith, ℤ, append_assoc}
 use Rattle.std.specs.Prelude.{slice_index_or, vec_len}
 use Rattle.std.proofs.lemmas.Bool.{cases_lt}
 use Rattle.std.proofs.lemmas.List.{length-append}
@@ -24,6 +24,10 @@ use Rattle.tree_scan.specs.declared.level.Level.{Level}
 use Rattle.tree_scan.specs.Coming.{Comes, IsSpent}
 use Rattle.tree_scan.specs.Scanning.{IsLevel, AreLevels, KeepsComing, NamesNext, BreaksChild, IsBarred}
 use Rattle.tree_scan.proofs.Lasts.{at_last, count_last}
+use Rattle.tree_read.specs.Ways.{StandsAt}
+use Rattle.tree_scan.specs.Seeking.{Sought, IsSought, KeepsSought}
+use Rattle.tree_scan.proofs.Seeks.{sought_down}
+use Rattle.tree_scan.proofs.Lasts.{same_last}
 use Rattle.tree_scan.proofs.Paths.{IsDone, down, further}
 
 pub level_later : {P : Type 0} (pages : Ghosts P) (old now : P) → ReadsAtMost pages old now → (level : Level) → IsLevel pages old level → IsLevel pages now level
@@ -143,15 +147,27 @@ child_barred pages old new levels top child depth (fault.Corrupt named) is inner
 child_barred pages old new levels top child depth (fault.Size count) is inner reading deep bars = bars
 child_barred pages old new levels top child depth fault.Memory is inner reading deep bars = tt
 
+-- What is said of pages that were only read is said of them before.
+pub to_old : {P : Type 0} (pages : Ghosts P) (old now : P) (F : ℕ → Shown → Type 0) (world : View) → ReadsAtMost pages old now → pages.tells now world
+    → F (pages.usable now) (shown_over pages now world) → F (pages.usable old) (shown_over pages old world)
+to_old pages old now F world reading told is =
+    subst (λ (s : Shown). F (pages.usable old) s) (same_shown pages old now reading world told) (subst (λ (u : ℕ). F u (shown_over pages now world)) reading.edits.usable is)
+
+pub to_now : {P : Type 0} (pages : Ghosts P) (old now : P) (F : ℕ → Shown → Type 0) (world : View) → ReadsAtMost pages old now → pages.tells now world
+    → F (pages.usable old) (shown_over pages old world) → F (pages.usable now) (shown_over pages now world)
+to_now pages old now F world reading told is =
+    subst (λ (s : Shown). F (pages.usable now) s) (sym (same_shown pages old now reading world told)) (subst (λ (u : ℕ). F u (shown_over pages old world)) (sym reading.edits.usable) is)
+
 -- the level of a page that was read
-pub fresh_level : {P : Type 0} (pages : Ghosts P) (old new : P) (level : Level) (page depth : ℕ) → level.page ≡ page → level.place ≡ 0 → ReadsAtMost pages old new
+pub fresh_level : {P : Type 0} (pages : Ghosts P) (old new : P) (level : Level) (page depth : ℕ) → level.page ≡ page
+    → ((node : Node) → IsReadPage (pages.usable old) level.bytes.items level.node node → level.place ≤ length node.cells) → ReadsAtMost pages old new
     → HasNode pages old true page depth level.bytes.items level.node new → IsLevel pages new level
-fresh_level pages old new level page depth is front reading has = record {
+fresh_level pages old new level page depth is place reading has = record {
   node = has.node;
   read = record { first = page == 1; tells = subst (λ (u : ℕ). Tells u (page == 1) level.bytes.items level.node has.node) (sym reading.edits.usable) has.tells };
   shown = λ world told. ap (λ (s : Shown). s.node level.page) (same_shown pages old new reading world told)
       ∙ ap (λ (p : ℕ). (shown_over pages old world).node p) is ∙ has.shown world told;
-  inside = omega (arith, front);
+  inside = omega (arith, place has.node (record { first = page == 1; tells = has.tells }));
 }
 
 -- something is left of a child
@@ -167,15 +183,25 @@ fresh_left pages old new level page depth low deep front has spent = elim has.ma
     by_kind true n some spent = omega (arith, some, spent, front)
     by_kind false n some spent = omega (arith, some, spent, front)
 
+-- of an interior one at any place
+pub inner_left : {P : Type 0} (pages : Ghosts P) (old new : P) (level : Level) (page depth : ℕ)
+    → ((node : Node) → IsReadPage (pages.usable old) level.bytes.items level.node node → level.place ≤ length node.cells)
+    → HasNode pages old true page depth level.bytes.items level.node new → is_leaf level.node.kind ≡ false → IsSpent level → ⊥
+inner_left pages old new level page depth place has inner spent =
+    omega (arith, spent_inner (is_leaf level.node.kind) (vec_len level.node.cells) level.place inner spent, place has.node (record { first = page == 1; tells = has.tells }), has.tells.count)
+
 -- levels with a child below them
 pub with_child : {P : Type 0} (pages : Ghosts P) (old new : P) (levels levels_then : List Level) (top child : Level) (page depth : ℕ) → ReadsAtMost pages old new
-    → (is : TopIs pages old levels top) → Inner pages old top page → depth ≡ length levels → child.page ≡ page → child.place ≡ 0
+    → (is : TopIs pages old levels top) → Inner pages old top page → depth ≡ length levels → child.page ≡ page
+    → ((node : Node) → IsReadPage (pages.usable old) child.bytes.items child.node node → child.place ≤ length node.cells)
     → HasNode pages old true page depth child.bytes.items child.node new → levels_then ≡ is.above ++ further top ∷ child ∷ [] → AreLevels pages new levels_then
-with_child pages old new levels levels_then top child page depth reading is inner deep page_is front has are =
-    let top_then : IsLevel pages new top = level_later pages old new reading top is.is_level in (
+with_child pages old new levels levels_then top child page depth reading is inner deep page_is place has are =
+    let top_then : IsLevel pages new top = level_later pages old new reading top is.is_level in
+    (
       subst (Each (IsLevel pages new)) (sym are) (each-append (IsLevel pages new) is.above (further top ∷ child ∷ [])
           (weaker (IsLevel pages old) (IsLevel pages new) is.above (level_later pages old new reading) is.others)
-          (record { node = top_then.node; read = top_then.read; shown = top_then.shown; inside = omega (arith, inner.inside, inner.decoded, top_then.read.tells.count) }, (fresh_level pages old new child page depth page_is front reading has, tt))),
+          (record { node = top_then.node; read = top_then.read; shown = top_then.shown; inside = omega (arith, inner.inside, inner.decoded, top_then.read.tells.count) },
+          (fresh_level pages old new child page depth page_is place reading has, tt))),
       omega (arith, ap length are, length-append is.above (further top ∷ child ∷ []), deep, has.may.depth, count_last levels is.above top is.are),
     )
 
@@ -189,19 +215,35 @@ child_comes pages old new levels levels_then top child page reading is inner pag
     (page_is ∙ inner.child_is) front
     (subst (λ (l : List Level). Comes (pages.usable old) bound (shown_over pages old world) height l items) is.are comes))
 
+pub child_sought : {P : Type 0} (pages : Ghosts P) (old new : P) (rowid : ℤ) (levels levels_then : List Level) (top child : Level) (page depth : ℕ) → ReadsAtMost pages old new
+    → (is : TopIs pages old levels top) → Inner pages old top page → child.page ≡ page
+    → ((node : Node) → IsReadPage (pages.usable old) child.bytes.items child.node node → StandsAt node.cells rowid child.place)
+    → HasNode pages old true page depth child.bytes.items child.node new
+    → ((above : List Level) (top : Level) → levels ≡ above ++ top ∷ [] → levels_then ≡ above ++ further top ∷ child ∷ []) → KeepsSought pages old rowid levels levels_then new
+child_sought pages old new rowid levels levels_then top child page depth reading is inner page_is stands has attached = λ world told bound height items sought.
+    let usable = pages.usable old in
+    let shown = shown_over pages old world in
+    let same : sought.top ≡ top = same_last sought.above is.above sought.top top (sym sought.are ∙ is.are) in
+    let at : Sought usable bound shown height rowid sought.above top items = subst (λ (t : Level). Sought usable bound shown height rowid sought.above t items) same sought.sought in
+    let are : levels ≡ sought.above ++ top ∷ [] = sought.are ∙ ap (λ (t : Level). sought.above ++ t ∷ []) same in
+    record {
+      above = sought.above ++ further top ∷ [];
+      top = child;
+      are = attached sought.above top are ∙ sym (append_assoc sought.above (further top ∷ []) (child ∷ []));
+      sought = sought_down usable bound shown height rowid sought.above top child inner.node has.node items (inner.shown world (reading.edits.narrows world told)) inner.inner
+          (page_is ∙ inner.child_is) (ap (λ (p : ℕ). shown.node p) page_is ∙ has.shown world told)
+          (stands has.node (record { first = page == 1; tells = has.tells })) at;
+    }
+
+pub sought_join : {P : Type 0} (pages : Ghosts P) (old now then : P) (rowid : ℤ) (a b c : List Level) → ReadsAtMost pages old now → ReadsAtMost pages now then
+    → KeepsSought pages old rowid a b now → KeepsSought pages now rowid b c then → KeepsSought pages old rowid a c then
+sought_join pages old now then rowid a b c reading more one two = λ world told bound height items sought.
+    let before = more.edits.narrows world told in
+    to_old pages old now (λ (u : ℕ) (s : Shown). IsSought u bound s height rowid c items) world reading before
+    (two world told bound height items (to_now pages old now (λ (u : ℕ) (s : Shown). IsSought u bound s height rowid b items) world reading before (one world before bound height items sought)))
+
 pub count_levels : (levels : Vec Level Global) → vec_len levels ≡ length levels.items
 count_levels levels = levels.ok.0
-
--- What is said of pages that were only read is said of them before.
-pub to_old : {P : Type 0} (pages : Ghosts P) (old now : P) (F : ℕ → Shown → Type 0) (world : View) → ReadsAtMost pages old now → pages.tells now world
-    → F (pages.usable now) (shown_over pages now world) → F (pages.usable old) (shown_over pages old world)
-to_old pages old now F world reading told is =
-    subst (λ (s : Shown). F (pages.usable old) s) (same_shown pages old now reading world told) (subst (λ (u : ℕ). F u (shown_over pages now world)) reading.edits.usable is)
-
-pub to_now : {P : Type 0} (pages : Ghosts P) (old now : P) (F : ℕ → Shown → Type 0) (world : View) → ReadsAtMost pages old now → pages.tells now world
-    → F (pages.usable old) (shown_over pages old world) → F (pages.usable now) (shown_over pages now world)
-to_now pages old now F world reading told is =
-    subst (λ (s : Shown). F (pages.usable now) s) (sym (same_shown pages old now reading world told)) (subst (λ (u : ℕ). F u (shown_over pages old world)) (sym reading.edits.usable) is)
 
 pub keeps_join : {P : Type 0} (pages : Ghosts P) (old now then : P) (a b c : List Level) → ReadsAtMost pages old now → ReadsAtMost pages now then
     → KeepsComing pages old a b now → KeepsComing pages now b c then → KeepsComing pages old a c then

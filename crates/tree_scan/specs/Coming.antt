@@ -63,13 +63,23 @@ pub record AreUpTo (high : Option ℤ) (items some : List Item) : Type 0 where
   pub inside : Each (λ (item : Item). IsOver high item.key → ⊥) some
   pub over : Each (λ (item : Item). IsOver high item.key) back
 
--- A cursor that hasn't begun is before the items of its root's tree.
+-- a key is under a bound
+abbrev pub IsUnder : (low : Option ℤ) → ℤ → Type 0
+IsUnder None key = ⊥
+IsUnder (Some low) key = key <ℤ low
+
+-- A cursor that hasn't begun is before those items of its root's tree that are in the bounds.
 pub record AreBefore (usable last : ℕ) (shown : Shown) (cursor : Cursor) (some : List Item) : Type 0 where
   pub height : ℕ
   pub own : List ℕ
   pub items : List Item
   pub tree : IsTree true usable last shown height cursor.root own items
-  pub up_to : AreUpTo cursor.high items some
+  pub front : List Item
+  pub rest : List Item
+  pub items_are : items ≡ front ++ rest
+  pub under : Each (λ (item : Item). IsUnder cursor.low item.key) front
+  pub not_under : Each (λ (item : Item). IsUnder cursor.low item.key → ⊥) rest
+  pub up_to : AreUpTo cursor.high rest some
 
 -- One that has is on its path.
 pub record AreBehind (usable last : ℕ) (shown : Shown) (cursor : Cursor) (some : List Item) : Type 0 where

@@ -32,7 +32,7 @@ AreLevels pages now levels = Each (IsLevel pages now) levels × (length levels �
 
 -- What the cursor has of pages is what stands over each world that is told: its pages were those of these worlds.
 abbrev pub Fits : {P : Type 0} → Ghosts P → P → Cursor → Type 0
-Fits pages now cursor = AreLevels pages now cursor.levels.items × (cursor.begun ≡ false → cursor.levels.items ≡ [])
+Fits pages now cursor = AreLevels pages now cursor.levels.items
 
 -- Over each world that is still told, what came from these levels comes from those.
 abbrev pub KeepsComing : {P : Type 0} → Ghosts P → P → (levels levels_then : List Level) → P → Type 0
@@ -89,12 +89,16 @@ pub record BreaksNextRow (usable last : ℕ) (shown : Shown) (levels : List Leve
   pub chain : List ℕ
   pub breaks : BreaksPayload usable last shown (cell_at node top.place) top.page chain page
 
+pub data BreaksStart (last : ℕ) (shown : Shown) (root : ℕ) (levels : List Level) (page : ℕ) : Type 0 where
+  AtRoot : BreaksRoot last shown root page → BreaksStart last shown root levels page
+  BelowRoot : BreaksChild last shown levels page → BreaksStart last shown root levels page
+
 pub data BreaksOn (usable last : ℕ) (shown : Shown) (levels : List Level) (page : ℕ) : Type 0 where
   AtChild : BreaksChild last shown levels page → BreaksOn usable last shown levels page
   AtRow : BreaksNextRow usable last shown levels page → BreaksOn usable last shown levels page
 
 pub data BreaksNext (usable last : ℕ) (shown : Shown) (cursor : Cursor) (page : ℕ) : Type 0 where
-  AtRoot : cursor.begun ≡ false → BreaksRoot last shown cursor.root page → BreaksNext usable last shown cursor page
+  AtStart : cursor.begun ≡ false → BreaksStart last shown cursor.root cursor.levels.items page → BreaksNext usable last shown cursor page
   Behind : cursor.begun ≡ true → BreaksOn usable last shown cursor.levels.items page → BreaksNext usable last shown cursor page
 
 abbrev pub IsBarred : {P : Type 0} → Ghosts P → P → P → (Shown → (page : ℕ) → Type 0) → FetchFault → Type 0

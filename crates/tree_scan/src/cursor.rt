@@ -1,10 +1,10 @@
 // A cursor over a table's tree.
 ghost use Rattle.std.specs.Prelude.{◌≡◌, ◌⊎◌, ℕ, suc, ◌≤◌, ◌<◌, true, false, length, OnOk, IfOk, IfErr, OnErr, List, [], Some, None};
 ghost use Rattle.page_face.specs.Pages.{ReadsAtMost};
-ghost use Rattle.tree_scan.specs.Scanning.{Fits, GivesNext, StaysThere, IsBarred, BreaksRoot, BreaksOn, BreaksNext};
+ghost use Rattle.tree_scan.specs.Scanning.{Fits, GivesNext, StaysThere, IsBarred, BreaksStart, BreaksOn, BreaksNext};
 
 use crate::level::Level;
-use crate::path::{go_down, go_up, read_level, step_on};
+use crate::path::{first_path, go_down, go_up, step_on};
 use crate::row::row_at;
 use page_face::{FetchFault, Pages};
 use std::alloc::{AllocError, Global};
@@ -15,6 +15,7 @@ use value_form::Row;
 pub struct Cursor {
     pub(crate) alloc: Global,
     pub(crate) root: u32,
+    pub(crate) low: Option<i64>,
     pub(crate) high: Option<i64>,
     pub(crate) begun: bool,
     pub(crate) levels: Vec<Level>,
@@ -22,9 +23,10 @@ pub struct Cursor {
 }
 
 impl Cursor {
-    /// A cursor before all rows of the table's tree at page `root`, up to those of the rowid `high`. It takes no memory.
-    pub fn rows(alloc: Global, root: u32, high: Option<i64>) -> Cursor
+    /// A cursor before the rows of the table's tree at page `root` whose rowids are from `low` to `high`, both inclusive. It takes no memory.
+    pub fn rows(alloc: Global, root: u32, low: Option<i64>, high: Option<i64>) -> Cursor
         ensures root { result.root ≡ root }
+        ensures low { result.low ≡ low }
         ensures high { result.high ≡ high }
         ensures begun { result.begun ≡ false }
         ensures levels { result.levels.items ≡ [] }
@@ -32,6 +34,7 @@ impl Cursor {
         Cursor {
             alloc,
             root,
+            low,
             high,
             begun: false,
             levels: Vec::new(alloc),
@@ -65,14 +68,14 @@ impl Cursor {
         }
     }
 
-    // Reads the root, if that wasn't done yet.
+    // Goes to the first row, if that wasn't done yet.
     fn begin<P: Pages>(&mut self, pages: &mut P) -> Result<(), FetchFault>
         requires ready { P.ready pages.old }
         requires fits { Fits P.PagesTells pages.old self.old }
         ensures stays { StaysThere P.PagesTells pages.old self.old self.new pages.new }
         ensures begun { OnOk result (self.new.begun ≡ true) }
         ensures not_begun { OnErr result (self.new.begun ≡ false) }
-        ensures barred { IfErr result (IsBarred P.PagesTells pages.old pages.new (λ shown. BreaksRoot (P.last_page pages.old) shown self.new.root)) }
+        ensures barred { IfErr result (IsBarred P.PagesTells pages.old pages.new (λ shown. BreaksStart (P.last_page pages.old) shown self.new.root self.new.levels.items)) }
         ensures fits { Fits P.PagesTells pages.new self.new }
         ensures reading { ReadsAtMost P.PagesTells pages.old pages.new }
     {
@@ -83,13 +86,17 @@ impl Cursor {
         if root < 1 || root > pages.last() {
             return Err(FetchFault::Corrupt { page: root });
         }
-        let level = match read_level(self.alloc, pages, root, 0, &mut self.spare) {
-            Ok(level) => level,
-            Err(why) => return Err(why),
-        };
-        match self.levels.push(level) {
+        self.levels.clear();
+        match first_path(
+            self.alloc,
+            pages,
+            root,
+            &mut self.levels,
+            &mut self.spare,
+            self.low,
+        ) {
             Ok(()) => (),
-            Err(_) => return Err(FetchFault::Memory),
+            Err(why) => return Err(why),
         }
         self.begun = true;
         Ok(())
@@ -108,7 +115,7 @@ impl Cursor {
         ensures reading { ReadsAtMost P.PagesTells pages.old pages.new }
     {
         go_up(&mut self.levels, &mut self.spare);
-        match go_down(self.alloc, pages, &mut self.levels, &mut self.spare) {
+        match go_down(self.alloc, pages, &mut self.levels, &mut self.spare, None) {
             Ok(()) => (),
             Err(why) => return Err(why),
         }

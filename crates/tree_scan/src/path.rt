@@ -1,19 +1,23 @@
 // The path of a cursor, gone up and down.
-ghost use Rattle.std.specs.Prelude.{◌≡◌, ◌⊎◌, ℕ, suc, ◌≤◌, ◌<◌, true, false, List, [], ◌∷◌, ◌++◌, length, OnOk, IfOk, IfErr, OnErr};
+ghost use Rattle.std.specs.Prelude.{◌≡◌, ◌⊎◌, ℕ, suc, ℤ, ◌≤◌, ◌<◌, Option, Some, None, true, false, List, [], ◌∷◌, ◌++◌, length, OnOk, IfOk, IfErr, OnErr};
 ghost use Rattle.engine_spec.specs.declared.commits.FetchFault.TheVariants as fault;
 ghost use Rattle.tree_spec.specs.Layout.{Each};
 ghost use Rattle.page_face.specs.Pages.{ReadsAtMost};
 ghost use Rattle.node_spec.specs.Kinds.{is_leaf};
 ghost use Rattle.tree_read.specs.Looking.{HasNode, BarsNode};
 ghost use Rattle.tree_scan.specs.Coming.{IsSpent};
-ghost use Rattle.tree_scan.specs.Scanning.{AreLevels, KeepsComing, IsBarred, BreaksChild};
+ghost use Rattle.tree_scan.specs.Scanning.{AreLevels, KeepsComing, IsBarred, BreaksChild, BreaksStart};
+ghost use Rattle.tree_scan.specs.Seeking.{KeepsSought, StartsWhole, StartsAt};
+ghost use Rattle.node_spec.specs.Nodes.{Node};
+ghost use Rattle.page_form.specs.Reading.{IsReadPage};
+ghost use Rattle.tree_read.specs.Ways.{StandsAt};
 ghost use Rattle.tree_scan.specs.declared.level.Level.{Level};
 
 use crate::level::{Level, is_spent};
 use page_face::{FetchFault, Pages};
 use page_form::{Page, is_leaf};
 use std::alloc::{AllocError, Global};
-use tree_read::{child_before, is_outside, page_buffer, read_node, usable_of};
+use tree_read::{child_before, is_outside, page_buffer, place_of, read_node, usable_of};
 
 // Goes up past the levels of which nothing is left.
 pub(crate) fn go_up(levels: &mut Vec<Level>, spare: &mut Vec<Vec<u8>>)
@@ -99,19 +103,22 @@ pub(crate) fn step_on(levels: &mut Vec<Level>)
     levels[at].place += 1;
 }
 
-// Goes down along the children that come next to a leaf, of which something is left then.
+// Goes down along the children that come next to a leaf. Something is left of it then; with a low bound it stands at the bound's place.
 pub(crate) fn go_down<P: Pages>(
     alloc: Global,
     pages: &mut P,
     levels: &mut Vec<Level>,
     spare: &mut Vec<Vec<u8>>,
+    low: Option<i64>,
 ) -> Result<(), FetchFault>
     requires ready { P.ready pages.old }
     requires levels { AreLevels P.PagesTells pages.old levels.old.items }
-    requires left { (above : List Level) (top : Level) → levels.old.items ≡ above ++ top ∷ [] → IsSpent top → ⊥ }
+    requires left { (above : List Level) (top : Level) → levels.old.items ≡ above ++ top ∷ [] → is_leaf top.node.kind ≡ false → IsSpent top → ⊥ }
     ensures levels { AreLevels P.PagesTells pages.new levels.new.items }
-    ensures coming { KeepsComing P.PagesTells pages.old levels.old.items levels.new.items pages.new }
-    ensures left { (above : List Level) (top : Level) → levels.new.items ≡ above ++ top ∷ [] → IsSpent top → ⊥ }
+    ensures coming { low ≡ None → KeepsComing P.PagesTells pages.old levels.old.items levels.new.items pages.new }
+    ensures sought { (rowid : ℤ) → low ≡ Some rowid → KeepsSought P.PagesTells pages.old rowid levels.old.items levels.new.items pages.new }
+    ensures left { low ≡ None → ((above : List Level) (top : Level) → levels.old.items ≡ above ++ top ∷ [] → IsSpent top → ⊥)
+        → (above : List Level) (top : Level) → levels.new.items ≡ above ++ top ∷ [] → IsSpent top → ⊥ }
     ensures leaf { OnOk result ((above : List Level) (top : Level) → levels.new.items ≡ above ++ top ∷ [] → is_leaf top.node.kind ≡ true) }
     ensures barred { IfErr result (IsBarred P.PagesTells pages.old pages.new (λ shown. BreaksChild (P.last_page pages.old) shown levels.new.items)) }
     ensures reading { ReadsAtMost P.PagesTells pages.old pages.new }
@@ -120,7 +127,7 @@ pub(crate) fn go_down<P: Pages>(
         if at_leaf(levels) {
             return Ok(());
         }
-        match enter(alloc, pages, levels, spare) {
+        match enter(alloc, pages, levels, spare, low) {
             Ok(()) => (),
             Err(why) => return Err(why),
         }
@@ -145,13 +152,16 @@ fn enter<P: Pages>(
     pages: &mut P,
     levels: &mut Vec<Level>,
     spare: &mut Vec<Vec<u8>>,
+    low: Option<i64>,
 ) -> Result<(), FetchFault>
     requires ready { P.ready pages.old }
     requires levels { AreLevels P.PagesTells pages.old levels.old.items }
     requires inner { (above : List Level) × ((top : Level) × ((levels.old.items ≡ above ++ top ∷ []) × ((is_leaf top.node.kind ≡ false) × (IsSpent top → ⊥)))) }
     ensures levels { AreLevels P.PagesTells pages.new levels.new.items }
-    ensures coming { KeepsComing P.PagesTells pages.old levels.old.items levels.new.items pages.new }
-    ensures left { OnOk result ((above : List Level) (top : Level) → levels.new.items ≡ above ++ top ∷ [] → IsSpent top → ⊥) }
+    ensures coming { low ≡ None → KeepsComing P.PagesTells pages.old levels.old.items levels.new.items pages.new }
+    ensures sought { (rowid : ℤ) → low ≡ Some rowid → KeepsSought P.PagesTells pages.old rowid levels.old.items levels.new.items pages.new }
+    ensures left { OnOk result (low ≡ None → (above : List Level) (top : Level) → levels.new.items ≡ above ++ top ∷ [] → IsSpent top → ⊥) }
+    ensures inner { OnOk result ((above : List Level) (top : Level) → levels.new.items ≡ above ++ top ∷ [] → is_leaf top.node.kind ≡ false → IsSpent top → ⊥) }
     ensures more { OnOk result (length levels.new.items ≡ suc (length levels.old.items)) }
     ensures kept { OnErr result (levels.new.items ≡ levels.old.items) }
     ensures barred { IfErr result (IsBarred P.PagesTells pages.old pages.new (λ shown. BreaksChild (P.last_page pages.old) shown levels.old.items)) }
@@ -164,7 +174,7 @@ fn enter<P: Pages>(
     if is_outside(child, pages.last()) {
         return Err(FetchFault::Corrupt { page: top.page });
     }
-    let level = match read_level(alloc, pages, child, depth as u32, spare) {
+    let level = match read_level(alloc, pages, child, depth as u32, spare, low) {
         Ok(level) => level,
         Err(why) => return Err(why),
     };
@@ -174,32 +184,89 @@ fn enter<P: Pages>(
     }
 }
 
-// Reads the page that stands so many levels below the root, and stands before all that is under it.
+// Reads the page that stands so many levels below the root, and stands at the bound's place, or before all that is under it.
 pub(crate) fn read_level<P: Pages>(
     alloc: Global,
     pages: &mut P,
     page: u32,
     depth: u32,
     spare: &mut Vec<Vec<u8>>,
+    low: Option<i64>,
 ) -> Result<Level, FetchFault>
     requires ready { P.ready pages.old }
     requires page { (1 ≤ page) × (page ≤ P.last_page pages.old) }
     ensures node { IfOk result (λ level. HasNode P.PagesTells pages.old true page depth level.bytes.items level.node pages.new) }
-    ensures page { IfOk result (λ level. (level.page ≡ page) × (level.place ≡ 0)) }
+    ensures page { IfOk result (λ level. level.page ≡ page) }
+    ensures front { IfOk result (λ level. low ≡ None → level.place ≡ 0) }
+    ensures stands { IfOk result (λ level. (rowid : ℤ) → low ≡ Some rowid → (node : Node) → IsReadPage (P.usable pages.old) level.bytes.items level.node node
+        → StandsAt node.cells rowid level.place) }
+    ensures inside { IfOk result (λ level. (node : Node) → IsReadPage (P.usable pages.old) level.bytes.items level.node node → level.place ≤ length node.cells) }
     ensures cause { IfErr result (BarsNode P.PagesTells pages.old true page depth pages.new) }
     ensures reading { ReadsAtMost P.PagesTells pages.old pages.new }
 {
+    let usable = usable_of(pages);
     let mut bytes = match buffer(alloc, spare, pages.page_size()) {
         Ok(bytes) => bytes,
         Err(why) => return Err(why),
     };
     match read_node(alloc, pages, true, page, depth, bytes.as_mut_slice()) {
-        Ok(node) => Ok(Level {
-            page,
-            node,
-            bytes,
-            place: 0,
-        }),
+        Ok(node) => {
+            let place = first_place(&node, bytes.as_slice(), usable, low);
+            Ok(Level {
+                page,
+                node,
+                bytes,
+                place,
+            })
+        }
+        Err(why) => Err(why),
+    }
+}
+
+// The bound's place among the cells of a page, or that of the first.
+fn first_place(page: &Page, bytes: &[u8], u: usize, low: Option<i64>) -> usize
+    requires { (node : Node) × IsReadPage u bytes.now page.now node }
+    ensures front { low ≡ None → result ≡ 0 }
+    ensures stands { (rowid : ℤ) → low ≡ Some rowid → (node : Node) → IsReadPage u bytes.now page.now node → StandsAt node.cells rowid result }
+    ensures inside { (node : Node) → IsReadPage u bytes.now page.now node → result ≤ length node.cells }
+{
+    match low {
+        Some(rowid) => place_of(page, bytes, u, rowid),
+        None => 0,
+    }
+}
+
+// Reads the root, and goes down to the place of a low bound.
+pub(crate) fn first_path<P: Pages>(
+    alloc: Global,
+    pages: &mut P,
+    root: u32,
+    levels: &mut Vec<Level>,
+    spare: &mut Vec<Vec<u8>>,
+    low: Option<i64>,
+) -> Result<(), FetchFault>
+    requires ready { P.ready pages.old }
+    requires root { (1 ≤ root) × (root ≤ P.last_page pages.old) }
+    requires none { levels.old.items ≡ [] }
+    ensures levels { AreLevels P.PagesTells pages.new levels.new.items }
+    ensures whole { OnOk result (low ≡ None → StartsWhole P.PagesTells pages.old root levels.new.items pages.new) }
+    ensures at { OnOk result ((rowid : ℤ) → low ≡ Some rowid → StartsAt P.PagesTells pages.old root rowid levels.new.items pages.new) }
+    ensures barred { IfErr result (IsBarred P.PagesTells pages.old pages.new (λ shown. BreaksStart (P.last_page pages.old) shown root levels.new.items)) }
+    ensures reading { ReadsAtMost P.PagesTells pages.old pages.new }
+{
+    let level = match read_level(alloc, pages, root, 0, spare, low) {
+        Ok(level) => level,
+        Err(why) => return Err(why),
+    };
+    match levels.push(level) {
+        Ok(()) => (),
+        Err(_) => return Err(FetchFault::Memory),
+    }
+    if low.is_none() {
+        return Ok(());
+    }
+    match go_down(alloc, pages, levels, spare, low) {
+        Ok(()) => Ok(()),
         Err(why) => Err(why),
     }
 }

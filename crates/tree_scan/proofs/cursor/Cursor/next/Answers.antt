@@ -1,6 +1,6 @@
 use Rattle.std.proofs.Common.{ℕ}
 use Rattle.tree_spec.specs.Shown.{Shown}
-use Rattle.tree_scan.specs.Scanning.{BreaksOn, BreaksNext}
+use Rattle.tree_scan.specs.Scanning.{BreaksStart, BreaksOn, BreaksNext}
 use Rattle.tree_scan.proofs.Cursors.{stays_join, gives_join, barred_as}
 use Rattle.tree_scan.proofs.Shows.{barred_before}
 use Rattle.tree_scan.proofs.cursor.Cursor.next.Goals as goal
@@ -22,3 +22,11 @@ returns-in-Err-go_on-clause-barred g c =
     (λ shown page breaks. BreaksNext.Behind c.in-Err-go_on.ensures.begun breaks)
     (barred_before p c.args.pages.now c.begin.new.pages c.go_on.new.pages (λ (u n : ℕ) (s : Shown). BreaksOn u n s new.levels.items) c.in-Err-go_on.why
     c.in-Ok.ensures.reading c.in-Err-go_on.ensures.reading c.in-Err-go_on.ensures.barred)
+
+pub returns-in-Err-clause-barred : goal.returns-in-Err-clause-barred
+returns-in-Err-clause-barred g c =
+    let p = g.P.PagesTells in
+    let old = c.args.pages.now in
+    let new = c.begin.new.self in
+    barred_as p old c.begin.new.pages (λ (s : Shown). BreaksStart (p.last_page old) s new.root new.levels.items)
+    (λ (s : Shown). BreaksNext (p.usable old) (p.last_page old) s new) c.in-Err.why (λ shown page breaks. BreaksNext.AtStart c.in-Err.ensures.not_begun breaks) c.in-Err.ensures.barred
