@@ -1,5 +1,5 @@
 -- Down to a rowid's place.
-use Rattle.std.proofs.Common.{◌≡◌, ℕ, ℤ, zero, suc, ◌<◌, ◌≤◌, ◌<ℤ◌, ◌≤ℤ◌, true, false, List, [], ◌∷◌, ◌++◌, length, Some, refl, sym, subst, ap, ◌∙◌, arith, append_assoc}
+use Rattle.std.proofs.Common.{◌≡◌, ℕ, ℤ, zero, suc, ◌<ℤ◌, ◌≤ℤ◌, true, false, List, [], ◌∷◌, ◌++◌, Some, refl, sym, subst, ap, ◌∙◌, arith, append_assoc}
 use Rattle.std.specs.Prelude.{slice_index_or}
 use Rattle.std.proofs.lemmas.Int.{ints}
 use Rattle.node_spec.specs.Cells.{NodeCell}
@@ -7,15 +7,15 @@ use Rattle.node_spec.specs.Kinds.{is_leaf}
 use Rattle.node_spec.specs.Nodes.{Node, no_cell}
 use Rattle.tree_spec.specs.Shown.{Shown}
 use Rattle.tree_spec.specs.Layout.{Each, Item}
-use Rattle.tree_spec.specs.Trees.{AreItems, AreUnder, IsChild, Content, IsTree}
+use Rattle.tree_spec.specs.Trees.{AreItems, AreUnder, IsChild, Content}
 use Rattle.tree_spec.proofs.Lists.{each-append}
 use Rattle.tree_read.specs.Ways.{StandsAt, child_at}
 use Rattle.tree_read.proofs.Around.{weaker, both_below, stands_behind, cell_above, child_some, Subs, ListsSome}
 use Rattle.tree_read.proofs.Leaves.{first_below}
 use Rattle.tree_read.proofs.Levels.{one_node, not_both}
 use Rattle.tree_scan.specs.declared.level.Level.{Level}
-use Rattle.tree_scan.specs.Coming.{LeftItems, LeftUnder, Rests, Comes, one_less}
-use Rattle.tree_scan.specs.Seeking.{SoughtLast, SoughtAbove, Sought, Found}
+use Rattle.tree_scan.specs.Coming.{LeftItems, LeftUnder, Rests, one_less}
+use Rattle.tree_scan.specs.Seeking.{SoughtLast, Sought, Found}
 use Rattle.tree_scan.proofs.Left.{first_child, at_most}
 use Rattle.tree_scan.proofs.Paths.{further}
 
@@ -46,8 +46,11 @@ skip_items usable last shown rowid zero (cell ∷ cells) (item ∷ items) are st
     let first : rowid ≤ℤ item.key = subst (λ (z : ℤ). rowid ≤ℤ z) (sym are.0.key) (stands.below (omega arith)) in
     record {
       skipped = record { front = []; rest = item ∷ items; items_are = refl; left = are; under = tt };
-      over = (first, weaker (λ (other : Item). item.key <ℤ other.key) (λ (other : Item). rowid ≤ℤ other.key) items
-          (λ other above. at_most rowid item.key other.key first above) are.1);
+      over = (
+        first,
+        weaker (λ (other : Item). item.key <ℤ other.key) (λ (other : Item). rowid ≤ℤ other.key) items
+            (λ other above. at_most rowid item.key other.key first above) are.1,
+      );
     }
 skip_items usable last shown rowid (suc place) [] items are stands = absurd (omega (arith, stands.most))
 skip_items usable last shown rowid (suc place) (cell ∷ cells) [] never stands = absurd never
@@ -130,6 +133,7 @@ sought_down usable last shown height rowid [] top child node child_node items ho
   where
     same : sought.node ≡ node
     same = one_node shown top.page sought.node node sought.holds holds
+
     by_height : (height : ℕ) → Rests usable last shown height node top.place sought.rest → Sought usable last shown height rowid (further top ∷ []) child items
     by_height zero rests = absurd (not_both (is_leaf node.kind) rests.0 inner)
     by_height (suc height) rests =

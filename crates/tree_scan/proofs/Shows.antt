@@ -196,12 +196,12 @@ pub with_child : {P : Type 0} (pages : Ghosts P) (old new : P) (levels levels_th
     → ((node : Node) → IsReadPage (pages.usable old) child.bytes.items child.node node → child.place ≤ length node.cells)
     → HasNode pages old true page depth child.bytes.items child.node new → levels_then ≡ is.above ++ further top ∷ child ∷ [] → AreLevels pages new levels_then
 with_child pages old new levels levels_then top child page depth reading is inner deep page_is place has are =
-    let top_then : IsLevel pages new top = level_later pages old new reading top is.is_level in
-    (
+    let top_then : IsLevel pages new top = level_later pages old new reading top is.is_level in (
       subst (Each (IsLevel pages new)) (sym are) (each-append (IsLevel pages new) is.above (further top ∷ child ∷ [])
-          (weaker (IsLevel pages old) (IsLevel pages new) is.above (level_later pages old new reading) is.others)
-          (record { node = top_then.node; read = top_then.read; shown = top_then.shown; inside = omega (arith, inner.inside, inner.decoded, top_then.read.tells.count) },
-          (fresh_level pages old new child page depth page_is place reading has, tt))),
+          (weaker (IsLevel pages old) (IsLevel pages new) is.above (level_later pages old new reading) is.others) (
+            record { node = top_then.node; read = top_then.read; shown = top_then.shown; inside = omega (arith, inner.inside, inner.decoded, top_then.read.tells.count) },
+            (fresh_level pages old new child page depth page_is place reading has, tt),
+          )),
       omega (arith, ap length are, length-append is.above (further top ∷ child ∷ []), deep, has.may.depth, count_last levels is.above top is.are),
     )
 

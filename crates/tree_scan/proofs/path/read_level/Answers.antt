@@ -1,4 +1,4 @@
-use Rattle.std.proofs.Common.{◌≡◌, ℕ, List, sym, subst}
+use Rattle.std.proofs.Common.{ℕ, List, sym, subst}
 use Rattle.page_form.specs.Reading.{IsReadPage}
 use Rattle.tree_scan.proofs.path.read_level.Goals as goal
 

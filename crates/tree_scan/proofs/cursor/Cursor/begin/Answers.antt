@@ -1,4 +1,4 @@
-use Rattle.std.proofs.Common.{◌≡◌, refl}
+use Rattle.std.proofs.Common.{refl}
 use Rattle.tree_scan.proofs.Cursors.{begins}
 use Rattle.tree_scan.proofs.cursor.Cursor.begin.Goals as goal
 

@@ -5,7 +5,6 @@ use Rattle.std.specs.Prelude.{MatchOption, vec_len}
 use Rattle.node_spec.specs.Kinds.{is_leaf}
 use Rattle.value_form.specs.declared.value.Value.{Value}
 use Rattle.tree_scan.specs.Scanning.{KeepsComing, TakesNext, BreaksOn, BreaksChild, BreaksNextRow}
-use Rattle.tree_read.proofs.Levels.{not_both}
 use Rattle.tree_scan.proofs.Shows.{keeps_join, barred_before, levels_later, not_all}
 use Rattle.tree_scan.proofs.Lasts.{cut_last}
 use Rattle.tree_scan.proofs.Cursors.{keeps_up, levels_left, stays_by, gives_none, gives_some, barred_as, stepped_levels}
