@@ -5,3 +5,4 @@ pub mod Shows
 pub mod Taking
 pub mod Cursors
 pub mod Seeks
+pub mod Calls
