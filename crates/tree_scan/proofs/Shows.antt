@@ -132,6 +132,7 @@ names_next pages old levels top child is inner world told = record {
   node = inner.node;
   holds = inner.shown world told;
   inner = inner.inner;
+  inside = inner.inside;
   child_is = inner.child_is;
 }
 

@@ -73,6 +73,7 @@ pub record NamesNext (shown : Shown) (levels : List Level) (top : Level) (child 
   pub node : Node
   pub holds : shown.node top.page ≡ Some node
   pub inner : is_leaf node.kind ≡ false
+  pub inside : top.place ≤ length node.cells
   pub child_is : child ≡ child_at node.cells node.right top.place
 
 pub data BreaksChild (last : ℕ) (shown : Shown) (levels : List Level) (page : ℕ) : Type 0 where
