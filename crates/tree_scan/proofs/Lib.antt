@@ -6,3 +6,4 @@ pub mod Taking
 pub mod Cursors
 pub mod Seeks
 pub mod Calls
+pub mod Soundness
