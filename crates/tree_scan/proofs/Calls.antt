@@ -1,15 +1,13 @@
 -- What a caller keeps of a cursor while pages are only read.
-use Rattle.std.proofs.Common.{◌≡◌, ℕ, ℤ, false, List, [], ◌++◌, length, ◌∷◌, ◌<ℤ◌, subst, sym, arith}
+use Rattle.std.proofs.Common.{◌≡◌, ℕ, List, [], ◌++◌, ◌∷◌, ◌<ℤ◌, subst, sym, arith}
 use Rattle.page_spec.specs.View.{View}
 use Rattle.page_face.specs.declared.pages_tells.PagesTells.{Ghosts}
 use Rattle.page_face.specs.Pages.{ReadsAtMost}
-use Rattle.tree_spec.specs.Layout.{Each, Item, KeysRise}
+use Rattle.tree_spec.specs.Layout.{Item, KeysRise}
 use Rattle.tree_spec.specs.Shown.{Shown}
-use Rattle.tree_spec.specs.Trees.{IsTree}
 use Rattle.tree_spec.proofs.Rising.{tree_rises}
-use Rattle.tree_read.proofs.Around.{each_first, each_last}
+use Rattle.tree_read.proofs.Around.{each_first}
 use Rattle.overflow.specs.Following.{shown_over}
-use Rattle.tree_scan.specs.declared.level.Level.{Level}
 use Rattle.tree_scan.specs.declared.cursor.Cursor.{Cursor}
 use Rattle.tree_scan.specs.Coming.{AreToCome, AreBefore}
 use Rattle.tree_scan.specs.Scanning.{AreLevels, Fits}
