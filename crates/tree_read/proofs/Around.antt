@@ -57,14 +57,14 @@ around_behind rowid before items some less around = record {
 }
 
 -- a property of subtrees
-abbrev Subs : Type 1
+abbrev pub Subs : Type 1
 Subs = ℕ → List ℕ → List Item → Type 0
 
-abbrev ListsSome : Subs → Type 0
+abbrev pub ListsSome : Subs → Type 0
 ListsSome IsSub = (page : ℕ) (own : List ℕ) (items : List Item) → IsSub page own items → 1 ≤ length items
 
 -- a cell has a greater rowid than what is smaller than all that is listed
-cell_above : (usable last : ℕ) (shown : Shown) (IsSub : Subs) → ListsSome IsSub → (low : ℤ) (cells : List NodeCell) (right : ℕ) (own : List ℕ) (items : List Item) (j : ℕ)
+pub cell_above : (usable last : ℕ) (shown : Shown) (IsSub : Subs) → ListsSome IsSub → (low : ℤ) (cells : List NodeCell) (right : ℕ) (own : List ℕ) (items : List Item) (j : ℕ)
     → AreUnder true usable last shown IsSub cells right own items → Each (λ (item : Item). low <ℤ item.key) items → j < length cells
     → low <ℤ (slice_index_or cells j no_cell).rowid
 cell_above usable last shown IsSub some low [] right own items j under all inside = absurd (omega (arith, inside))

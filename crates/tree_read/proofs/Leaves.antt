@@ -19,7 +19,7 @@ item_above usable last shown low (cell ∷ cells) (item ∷ items) (suc j) are a
     item_above usable last shown low cells items j are.2 all.1 (omega (arith, inside))
 
 -- the first item is before a place behind it
-first_below : (usable last : ℕ) (shown : Shown) (rowid : ℤ) (cell : NodeCell) (cells : List NodeCell) (item : Item) (items : List Item) (k : ℕ)
+pub first_below : (usable last : ℕ) (shown : Shown) (rowid : ℤ) (cell : NodeCell) (cells : List NodeCell) (item : Item) (items : List Item) (k : ℕ)
     → AreItems true usable last shown (cell ∷ cells) (item ∷ items) → StandsAt (cell ∷ cells) rowid (suc k) → item.key <ℤ rowid
 first_below usable last shown rowid cell cells item items zero are stands =
     subst (λ (z : ℤ). z <ℤ rowid) (sym are.0.key) (stands.above zero refl)

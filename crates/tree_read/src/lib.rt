@@ -16,3 +16,7 @@ mod way;
 pub use entry::find_entry;
 pub use find::find_row;
 pub use last::last_row;
+pub use node::{is_outside, read_node, usable_of};
+pub use place::{child_before, place_of};
+pub use row::{local_of, row_of};
+pub use way::page_buffer;

@@ -14,11 +14,11 @@ use std::alloc::Global;
 /// A tree has at most so many levels below its root.
 const MOST_LEVELS: u32 = 40;
 
-// Reads the page that stands so many levels below the root of a table's tree or an index's, into a buffer that then has its bytes.
-//
-// `Corrupt` names the page: it is no page's text, of another kind than the tree's, too deep, or lacks a cell. Page 1 alone, and a root
-// that is a leaf, may have none.
-pub(crate) fn read_node<P: Pages>(
+/// Reads the page that stands so many levels below the root of a table's tree or an index's, into a buffer that then has its bytes.
+///
+/// `Corrupt` names the page: it is no page's text, of another kind than the tree's, too deep, or lacks a cell. Page 1 alone, and a root
+/// that is a leaf, may have none.
+pub fn read_node<P: Pages>(
     alloc: Global,
     pages: &mut P,
     table: bool,
@@ -46,8 +46,8 @@ pub(crate) fn read_node<P: Pages>(
     }
 }
 
-// How many bytes of a page are in use.
-pub(crate) fn usable_of<P: Pages>(pages: &P) -> usize
+/// How many bytes of a page are in use.
+pub fn usable_of<P: Pages>(pages: &P) -> usize
     requires { P.ready pages.now }
     ensures value { result ≡ P.usable pages.now }
     ensures least { 480 ≤ result }
@@ -94,7 +94,7 @@ fn may_stand(kind: Kind, cells: usize, table: bool, page: u32, level: u32) -> bo
 }
 
 /// Whether no child and no page of a chain has this number.
-pub(crate) fn is_outside(page: u32, last: u32) -> bool
+pub fn is_outside(page: u32, last: u32) -> bool
     ensures outside { result ≡ true → (page < 2) ⊎ (last < page) }
     ensures inside { result ≡ false → (2 ≤ page) × (page ≤ last) }
 {

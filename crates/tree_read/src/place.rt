@@ -8,8 +8,8 @@ ghost use Rattle.tree_read.specs.Looking.{IsLastRowid};
 
 use page_form::{Cell, Page, read_cell};
 
-// The place of a rowid among the cells of a page, whose rowids rise. Where they don't it is still a place between two that fit.
-fn place_of(page: &Page, bytes: &[u8], u: usize, rowid: i64) -> usize
+/// The place of a rowid among the cells of a page, whose rowids rise. Where they don't it is still a place between two that fit.
+pub fn place_of(page: &Page, bytes: &[u8], u: usize, rowid: i64) -> usize
     requires { (node : Node) × IsReadPage u bytes.now page.now node }
     ensures { (node : Node) → IsReadPage u bytes.now page.now node → StandsAt node.cells rowid result }
 {
@@ -54,8 +54,8 @@ fn child_of(page: &Page, bytes: &[u8], u: usize, rowid: i64) -> u32
     child_before(page, bytes, u, place_of(page, bytes, u, rowid))
 }
 
-// The child before the cell of a place, past all cells the right one.
-pub(crate) fn child_before(page: &Page, bytes: &[u8], u: usize, place: usize) -> u32
+/// The child before the cell of a place, past all cells the right one.
+pub fn child_before(page: &Page, bytes: &[u8], u: usize, place: usize) -> u32
     requires { (node : Node) × IsReadPage u bytes.now page.now node }
     ensures { (node : Node) → IsReadPage u bytes.now page.now node → result ≡ child_at node.cells node.right place }
 {

@@ -39,8 +39,8 @@ pub(crate) fn read_row<P: Pages>(
     }
 }
 
-// The same from the bytes that the cell stores, with a buffer of one page for the chain.
-pub(crate) fn row_of<P: Pages>(
+/// The row of a cell from the bytes that it stores, with a buffer of one page for the chain. `Corrupt` is that of [`find_row`](crate::find_row).
+pub fn row_of<P: Pages>(
     alloc: Global,
     pages: &mut P,
     page: u32,
@@ -116,8 +116,8 @@ fn begins_outside(first: u32, size: u64, last: u32) -> bool
     size > 0 && is_outside(first, last)
 }
 
-// The bytes that a cell of a page stores of its payload.
-pub(crate) fn local_of(
+/// The bytes that a cell of a page stores of its payload.
+pub fn local_of(
     alloc: Global,
     cell: &Cell,
     kind: Kind,

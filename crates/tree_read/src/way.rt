@@ -54,8 +54,8 @@ pub(crate) fn descend<P: Pages>(
     }
 }
 
-// A buffer of so many bytes.
-pub(crate) fn page_buffer(alloc: Global, size: usize) -> Result<Vec<u8>, FetchFault>
+/// A buffer of so many bytes.
+pub fn page_buffer(alloc: Global, size: usize) -> Result<Vec<u8>, FetchFault>
     ensures room { IfOk result (λ buf. length buf.items ≡ size) }
     ensures cause { IfErr result (λ why. why ≡ fault.Memory) }
 {

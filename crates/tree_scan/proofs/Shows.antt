@@ -1,0 +1,263 @@
+-- Levels that have what the pages show.
+use Rattle.std.proofs.Common.{◌≡◌, ℕ, suc, ◌-◌, ◌<◌, ◌≤◌, ◌==◌, Bool, true, false, cond, List, [], ◌∷◌, ◌++◌, length, Some, Vec, Global, inl, inr, refl, sym, subst, ap, ◌∙◌, arith, ℤ, append_assoc}
+use Rattle.std.specs.Prelude.{slice_index_or, vec_len}
+use Rattle.std.proofs.lemmas.Bool.{cases_lt}
+use Rattle.std.proofs.lemmas.List.{length-append}
+use Rattle.page_spec.specs.View.{View}
+use Rattle.engine_spec.specs.declared.commits.FetchFault.{FetchFault}
+use Rattle.engine_spec.specs.declared.commits.FetchFault.TheVariants as fault
+use Rattle.page_face.specs.declared.pages_tells.PagesTells.{Ghosts}
+use Rattle.page_face.specs.Pages.{ReadsAtMost}
+use Rattle.node_spec.specs.Kinds.{is_leaf}
+use Rattle.node_spec.specs.Nodes.{Node}
+use Rattle.page_form.specs.Reading.{IsReadPage, Tells}
+use Rattle.tree_spec.specs.Layout.{Each}
+use Rattle.tree_spec.specs.Shown.{Shown}
+use Rattle.tree_spec.proofs.Lists.{each-append}
+use Rattle.overflow.specs.Following.{shown_over}
+use Rattle.tree_read.specs.Ways.{child_at, ShowsNode}
+use Rattle.tree_read.specs.Looking.{HasNode, BarsNode}
+use Rattle.tree_read.proofs.Around.{weaker, each_first, each_last}
+use Rattle.tree_read.proofs.Descents.{same_shown, rose_before}
+use Rattle.tree_read.proofs.Levels.{not_both}
+use Rattle.tree_scan.specs.declared.level.Level.{Level}
+use Rattle.tree_scan.specs.Coming.{Comes, IsSpent}
+use Rattle.tree_scan.specs.Scanning.{IsLevel, AreLevels, KeepsComing, NamesNext, BreaksChild, IsBarred}
+use Rattle.tree_scan.proofs.Lasts.{at_last, count_last}
+use Rattle.tree_read.specs.Ways.{StandsAt}
+use Rattle.tree_scan.specs.Seeking.{Sought, IsSought, KeepsSought}
+use Rattle.tree_scan.proofs.Seeks.{sought_down}
+use Rattle.tree_scan.proofs.Lasts.{same_last}
+use Rattle.tree_scan.proofs.Paths.{IsDone, down, further}
+
+pub level_later : {P : Type 0} (pages : Ghosts P) (old now : P) → ReadsAtMost pages old now → (level : Level) → IsLevel pages old level → IsLevel pages now level
+level_later pages old now reading level is = record {
+  node = is.node;
+  read = subst (λ (u : ℕ). IsReadPage u level.bytes.items level.node is.node) (sym reading.edits.usable) is.read;
+  shown = λ world told. ap (λ (s : Shown). s.node level.page) (same_shown pages old now reading world told) ∙ is.shown world (reading.edits.narrows world told);
+  inside = is.inside;
+}
+
+pub levels_later : {P : Type 0} (pages : Ghosts P) (old now : P) (levels : List Level) → ReadsAtMost pages old now → AreLevels pages old levels → AreLevels pages now levels
+levels_later pages old now levels reading are =
+    (weaker (IsLevel pages old) (IsLevel pages now) levels (level_later pages old now reading) are.0, are.1)
+
+-- a level of which something is left
+not_past : (b : Bool) (n place : ℕ) → b ≡ false → ((cond b n (suc n)) ≤ place → ⊥) → place ≤ n
+not_past true n place is never = absurd (not_both true refl is)
+not_past false n place is never = elim (cases_lt n place) [ inl less ↦ absurd (never (omega (arith, less))) | inr most ↦ most ]
+
+pub not_all : (b : Bool) (n place : ℕ) → b ≡ true → ((cond b n (suc n)) ≤ place → ⊥) → place < n
+not_all true n place is never = elim (cases_lt place n) [ inl less ↦ less | inr most ↦ absurd (never most) ]
+not_all false n place is never = absurd (not_both false is refl)
+
+spent_leaf : (b : Bool) (n place : ℕ) → b ≡ true → (cond b n (suc n)) ≤ place → n ≤ place
+spent_leaf true n place is spent = spent
+spent_leaf false n place is spent = absurd (not_both false is refl)
+
+spent_inner : (b : Bool) (n place : ℕ) → b ≡ false → (cond b n (suc n)) ≤ place → n < place
+spent_inner true n place is spent = absurd (not_both true refl is)
+spent_inner false n place is spent = spent
+
+-- a level of which nothing is left, over one world
+pub done_level : {P : Type 0} (pages : Ghosts P) (old now : P) (world : View) → ReadsAtMost pages old now → pages.tells now world → (level : Level) → IsLevel pages now level → IsSpent level
+    → IsDone (shown_over pages old world) level
+done_level pages old now world reading told level is spent =
+    let t = is.read.tells in
+    let kind : is_leaf level.node.kind ≡ is_leaf is.node.kind = ap is_leaf t.kind in
+    record {
+      node = is.node;
+      holds = ap (λ (s : Shown). s.node level.page) (sym (same_shown pages old now reading world told)) ∙ is.shown world told;
+      leaf = λ leaf. omega (arith, spent_leaf (is_leaf level.node.kind) (vec_len level.node.cells) level.place (kind ∙ leaf) spent, t.count);
+      inner = λ inner. omega (arith, spent_inner (is_leaf level.node.kind) (vec_len level.node.cells) level.place (kind ∙ inner) spent, t.count);
+    }
+
+pub done_levels : {P : Type 0} (pages : Ghosts P) (old now : P) (world : View) → ReadsAtMost pages old now → pages.tells now world → (levels : List Level) → Each (IsLevel pages now) levels
+    → Each IsSpent levels → Each (IsDone (shown_over pages old world)) levels
+done_levels pages old now world reading told [] are spent = tt
+done_levels pages old now world reading told (level ∷ levels) are spent =
+    (done_level pages old now world reading told level are.0 spent.0, done_levels pages old now world reading told levels are.1 spent.1)
+
+-- The last level.
+pub record TopIs {P : Type 0} (pages : Ghosts P) (now : P) (levels : List Level) (top : Level) : Type 0 where
+  pub above : List Level
+  pub are : levels ≡ above ++ top ∷ []
+  pub others : Each (IsLevel pages now) above
+  pub is_level : IsLevel pages now top
+
+pub top_of : {P : Type 0} (pages : Ghosts P) (now : P) (levels above : List Level) (top at : Level) (depth : ℕ) → Each (IsLevel pages now) levels → levels ≡ above ++ top ∷ []
+    → depth ≡ length levels → at ≡ slice_index_or levels (depth - 1) at → (at ≡ top) × TopIs pages now levels at
+top_of pages now levels above top at depth all are count is =
+    let place : depth - 1 ≡ length above = omega (arith, count, count_last levels above top are) in
+    let same : at ≡ top = is ∙ at_last levels above top at [] (depth - 1) are place in
+    let parts : Each (IsLevel pages now) (above ++ top ∷ []) = subst (Each (IsLevel pages now)) are all in (
+      same,
+      record {
+        above = above;
+        are = are ∙ ap (λ (l : Level). above ++ l ∷ []) (sym same);
+        others = each_first (IsLevel pages now) above (top ∷ []) parts;
+        is_level = subst (IsLevel pages now) (sym same) (each_last (IsLevel pages now) above (top ∷ []) parts).0;
+      },
+    )
+
+-- an interior level, and the child that comes next
+pub record Inner {P : Type 0} (pages : Ghosts P) (now : P) (level : Level) (child : ℕ) : Type 0 where
+  pub node : Node
+  pub shown : (world : View) → pages.tells now world → (shown_over pages now world).node level.page ≡ Some node
+  pub inner : is_leaf node.kind ≡ false
+  pub inside : level.place ≤ length node.cells
+  pub decoded : vec_len level.node.cells ≡ length node.cells
+  pub child_is : child ≡ child_at node.cells node.right level.place
+
+pub inner_of : {P : Type 0} (pages : Ghosts P) (now : P) (level : Level) (usable child : ℕ) (bytes : List ℕ) → usable ≡ pages.usable now → bytes ≡ level.bytes.items → IsLevel pages now level
+    → is_leaf level.node.kind ≡ false → (IsSpent level → ⊥)
+    → ((node : Node) → IsReadPage usable bytes level.node node → child ≡ child_at node.cells node.right level.place) → Inner pages now level child
+inner_of pages now level usable child bytes is same level_is inner left names =
+    let t = level_is.read.tells in
+    record {
+      node = level_is.node;
+      shown = level_is.shown;
+      inner = ap is_leaf (sym t.kind) ∙ inner;
+      inside = omega (arith, not_past (is_leaf level.node.kind) (vec_len level.node.cells) level.place inner left, t.count);
+      decoded = t.count;
+      child_is = names level_is.node (subst (λ (b : List ℕ). IsReadPage usable b level.node level_is.node) (sym same)
+          (subst (λ (u : ℕ). IsReadPage u level.bytes.items level.node level_is.node) (sym is) level_is.read));
+    }
+
+-- why the child that comes next isn't gone to
+pub names_next : {P : Type 0} (pages : Ghosts P) (old : P) (levels : List Level) (top : Level) (child : ℕ) → TopIs pages old levels top → Inner pages old top child
+    → (world : View) → pages.tells old world → NamesNext (shown_over pages old world) levels top child
+names_next pages old levels top child is inner world told = record {
+  is_last = record { above = is.above; levels_are = is.are };
+  node = inner.node;
+  holds = inner.shown world told;
+  inner = inner.inner;
+  inside = inner.inside;
+  child_is = inner.child_is;
+}
+
+pub child_barred : {P : Type 0} (pages : Ghosts P) (old new : P) (levels : List Level) (top : Level) (child depth : ℕ) (why : FetchFault) → TopIs pages old levels top
+    → Inner pages old top child → ReadsAtMost pages old new → depth ≡ length levels → BarsNode pages old true child depth new why
+    → IsBarred pages old new (λ (shown : Shown). BreaksChild (pages.last_page old) shown levels) why
+child_barred pages old new levels top child depth fault.Disk is inner reading deep bars = bars
+child_barred pages old new levels top child depth (fault.Corrupt named) is inner reading deep bars = λ world told.
+    BreaksChild.ShowsNone top
+    (subst (λ (n : ℕ). NamesNext (shown_over pages old world) levels top n) (sym bars.0) (names_next pages old levels top child is inner world (reading.edits.narrows world told)))
+    (λ node shows. bars.2 world told node (subst (λ (n : ℕ). ShowsNode true (shown_over pages old world) depth n node) bars.0
+    (subst (λ (n : ℕ). ShowsNode true (shown_over pages old world) n named node) (sym deep) shows)))
+child_barred pages old new levels top child depth (fault.Size count) is inner reading deep bars = bars
+child_barred pages old new levels top child depth fault.Memory is inner reading deep bars = tt
+
+-- What is said of pages that were only read is said of them before.
+pub to_old : {P : Type 0} (pages : Ghosts P) (old now : P) (F : ℕ → Shown → Type 0) (world : View) → ReadsAtMost pages old now → pages.tells now world
+    → F (pages.usable now) (shown_over pages now world) → F (pages.usable old) (shown_over pages old world)
+to_old pages old now F world reading told is =
+    subst (λ (s : Shown). F (pages.usable old) s) (same_shown pages old now reading world told) (subst (λ (u : ℕ). F u (shown_over pages now world)) reading.edits.usable is)
+
+pub to_now : {P : Type 0} (pages : Ghosts P) (old now : P) (F : ℕ → Shown → Type 0) (world : View) → ReadsAtMost pages old now → pages.tells now world
+    → F (pages.usable old) (shown_over pages old world) → F (pages.usable now) (shown_over pages now world)
+to_now pages old now F world reading told is =
+    subst (λ (s : Shown). F (pages.usable now) s) (sym (same_shown pages old now reading world told)) (subst (λ (u : ℕ). F u (shown_over pages old world)) (sym reading.edits.usable) is)
+
+-- the level of a page that was read
+pub fresh_level : {P : Type 0} (pages : Ghosts P) (old new : P) (level : Level) (page depth : ℕ) → level.page ≡ page
+    → ((node : Node) → IsReadPage (pages.usable old) level.bytes.items level.node node → level.place ≤ length node.cells) → ReadsAtMost pages old new
+    → HasNode pages old true page depth level.bytes.items level.node new → IsLevel pages new level
+fresh_level pages old new level page depth is place reading has = record {
+  node = has.node;
+  read = record { first = page == 1; tells = subst (λ (u : ℕ). Tells u (page == 1) level.bytes.items level.node has.node) (sym reading.edits.usable) has.tells };
+  shown = λ world told. ap (λ (s : Shown). s.node level.page) (same_shown pages old new reading world told)
+      ∙ ap (λ (p : ℕ). (shown_over pages old world).node p) is ∙ has.shown world told;
+  inside = omega (arith, place has.node (record { first = page == 1; tells = has.tells }));
+}
+
+-- something is left of a child
+pub fresh_left : {P : Type 0} (pages : Ghosts P) (old new : P) (level : Level) (page depth : ℕ) → 2 ≤ page → 1 ≤ depth → level.place ≡ 0
+    → HasNode pages old true page depth level.bytes.items level.node new → IsSpent level → ⊥
+fresh_left pages old new level page depth low deep front has spent = elim has.may.enough [
+  | inl first ↦ omega (arith, first, low)
+  | inr (inl root) ↦ omega (arith, root.0, deep)
+  | inr (inr some) ↦ by_kind (is_leaf level.node.kind) (vec_len level.node.cells) (omega (arith, has.tells.count, some)) spent
+]
+  where
+    by_kind : (b : Bool) (n : ℕ) → 1 ≤ n → (cond b n (suc n)) ≤ level.place → ⊥
+    by_kind true n some spent = omega (arith, some, spent, front)
+    by_kind false n some spent = omega (arith, some, spent, front)
+
+-- of an interior one at any place
+pub inner_left : {P : Type 0} (pages : Ghosts P) (old new : P) (level : Level) (page depth : ℕ)
+    → ((node : Node) → IsReadPage (pages.usable old) level.bytes.items level.node node → level.place ≤ length node.cells)
+    → HasNode pages old true page depth level.bytes.items level.node new → is_leaf level.node.kind ≡ false → IsSpent level → ⊥
+inner_left pages old new level page depth place has inner spent =
+    omega (arith, spent_inner (is_leaf level.node.kind) (vec_len level.node.cells) level.place inner spent, place has.node (record { first = page == 1; tells = has.tells }), has.tells.count)
+
+-- levels with a child below them
+pub with_child : {P : Type 0} (pages : Ghosts P) (old new : P) (levels levels_then : List Level) (top child : Level) (page depth : ℕ) → ReadsAtMost pages old new
+    → (is : TopIs pages old levels top) → Inner pages old top page → depth ≡ length levels → child.page ≡ page
+    → ((node : Node) → IsReadPage (pages.usable old) child.bytes.items child.node node → child.place ≤ length node.cells)
+    → HasNode pages old true page depth child.bytes.items child.node new → levels_then ≡ is.above ++ further top ∷ child ∷ [] → AreLevels pages new levels_then
+with_child pages old new levels levels_then top child page depth reading is inner deep page_is place has are =
+    let top_then : IsLevel pages new top = level_later pages old new reading top is.is_level in (
+      subst (Each (IsLevel pages new)) (sym are) (each-append (IsLevel pages new) is.above (further top ∷ child ∷ [])
+          (weaker (IsLevel pages old) (IsLevel pages new) is.above (level_later pages old new reading) is.others) (
+            record { node = top_then.node; read = top_then.read; shown = top_then.shown; inside = omega (arith, inner.inside, inner.decoded, top_then.read.tells.count) },
+            (fresh_level pages old new child page depth page_is place reading has, tt),
+          )),
+      omega (arith, ap length are, length-append is.above (further top ∷ child ∷ []), deep, has.may.depth, count_last levels is.above top is.are),
+    )
+
+pub child_comes : {P : Type 0} (pages : Ghosts P) (old new : P) (levels levels_then : List Level) (top child : Level) (page : ℕ) → ReadsAtMost pages old new
+    → (is : TopIs pages old levels top) → Inner pages old top page → child.page ≡ page → child.place ≡ 0 → levels_then ≡ is.above ++ further top ∷ child ∷ []
+    → KeepsComing pages old levels levels_then new
+child_comes pages old new levels levels_then top child page reading is inner page_is front are = λ world told bound height items comes.
+    let before = reading.edits.narrows world told in
+    subst (λ (l : List Level). Comes (pages.usable old) bound (shown_over pages old world) height l items) (sym are)
+    (down (pages.usable old) bound (shown_over pages old world) height is.above top child inner.node items (inner.shown world before) inner.inner inner.inside
+    (page_is ∙ inner.child_is) front
+    (subst (λ (l : List Level). Comes (pages.usable old) bound (shown_over pages old world) height l items) is.are comes))
+
+pub child_sought : {P : Type 0} (pages : Ghosts P) (old new : P) (rowid : ℤ) (levels levels_then : List Level) (top child : Level) (page depth : ℕ) → ReadsAtMost pages old new
+    → (is : TopIs pages old levels top) → Inner pages old top page → child.page ≡ page
+    → ((node : Node) → IsReadPage (pages.usable old) child.bytes.items child.node node → StandsAt node.cells rowid child.place)
+    → HasNode pages old true page depth child.bytes.items child.node new
+    → ((above : List Level) (top : Level) → levels ≡ above ++ top ∷ [] → levels_then ≡ above ++ further top ∷ child ∷ []) → KeepsSought pages old rowid levels levels_then new
+child_sought pages old new rowid levels levels_then top child page depth reading is inner page_is stands has attached = λ world told bound height items sought.
+    let usable = pages.usable old in
+    let shown = shown_over pages old world in
+    let same : sought.top ≡ top = same_last sought.above is.above sought.top top (sym sought.are ∙ is.are) in
+    let at : Sought usable bound shown height rowid sought.above top items = subst (λ (t : Level). Sought usable bound shown height rowid sought.above t items) same sought.sought in
+    let are : levels ≡ sought.above ++ top ∷ [] = sought.are ∙ ap (λ (t : Level). sought.above ++ t ∷ []) same in
+    record {
+      above = sought.above ++ further top ∷ [];
+      top = child;
+      are = attached sought.above top are ∙ sym (append_assoc sought.above (further top ∷ []) (child ∷ []));
+      sought = sought_down usable bound shown height rowid sought.above top child inner.node has.node items (inner.shown world (reading.edits.narrows world told)) inner.inner
+          (page_is ∙ inner.child_is) (ap (λ (p : ℕ). shown.node p) page_is ∙ has.shown world told)
+          (stands has.node (record { first = page == 1; tells = has.tells })) at;
+    }
+
+pub sought_join : {P : Type 0} (pages : Ghosts P) (old now then : P) (rowid : ℤ) (a b c : List Level) → ReadsAtMost pages old now → ReadsAtMost pages now then
+    → KeepsSought pages old rowid a b now → KeepsSought pages now rowid b c then → KeepsSought pages old rowid a c then
+sought_join pages old now then rowid a b c reading more one two = λ world told bound height items sought.
+    let before = more.edits.narrows world told in
+    to_old pages old now (λ (u : ℕ) (s : Shown). IsSought u bound s height rowid c items) world reading before
+    (two world told bound height items (to_now pages old now (λ (u : ℕ) (s : Shown). IsSought u bound s height rowid b items) world reading before (one world before bound height items sought)))
+
+pub count_levels : (levels : Vec Level Global) → vec_len levels ≡ length levels.items
+count_levels levels = levels.ok.0
+
+pub keeps_join : {P : Type 0} (pages : Ghosts P) (old now then : P) (a b c : List Level) → ReadsAtMost pages old now → ReadsAtMost pages now then
+    → KeepsComing pages old a b now → KeepsComing pages now b c then → KeepsComing pages old a c then
+keeps_join pages old now then a b c reading more one two = λ world told bound height items comes.
+    let before = more.edits.narrows world told in
+    to_old pages old now (λ (u : ℕ) (s : Shown). Comes u bound s height c items) world reading before
+    (two world told bound height items (to_now pages old now (λ (u : ℕ) (s : Shown). Comes u bound s height b items) world reading before (one world before bound height items comes)))
+
+pub barred_before : {P : Type 0} (pages : Ghosts P) (old now then : P) (Breaks : ℕ → ℕ → Shown → ℕ → Type 0) (why : FetchFault) → ReadsAtMost pages old now
+    → ReadsAtMost pages now then → IsBarred pages now then (Breaks (pages.usable now) (pages.last_page now)) why → IsBarred pages old then (Breaks (pages.usable old) (pages.last_page old)) why
+barred_before pages old now then Breaks fault.Disk reading more bars = rose_before _ _ _ reading.edits.faults bars
+barred_before pages old now then Breaks (fault.Corrupt page) reading more bars = λ world told.
+    to_old pages old now (λ (u : ℕ) (s : Shown). Breaks u (pages.last_page old) s page) world reading (more.edits.narrows world told)
+    (subst (λ (n : ℕ). Breaks (pages.usable now) n (shown_over pages now world) page) reading.last (bars world told))
+barred_before pages old now then Breaks (fault.Size count) reading more bars = bars
+barred_before pages old now then Breaks fault.Memory reading more bars = tt

@@ -1,0 +1,112 @@
+use Rattle.std.proofs.Common.{ℕ, ℤ, ◌<◌, ◌≤◌, List, length, Option, refl, subst, arith}
+use Rattle.page_face.proofs.PageLaws.{reading_same}
+use Rattle.tree_spec.specs.Shown.{Shown}
+use Rattle.std.specs.Prelude.{MatchOption, vec_len}
+use Rattle.node_spec.specs.Kinds.{is_leaf}
+use Rattle.value_form.specs.declared.value.Value.{Value}
+use Rattle.tree_scan.specs.Scanning.{KeepsComing, TakesNext, BreaksOn, BreaksChild, BreaksNextRow}
+use Rattle.tree_scan.proofs.Shows.{keeps_join, barred_before, levels_later, not_all}
+use Rattle.tree_scan.proofs.Lasts.{cut_last}
+use Rattle.tree_scan.proofs.Cursors.{keeps_up, levels_left, stays_by, gives_none, gives_some, barred_as, stepped_levels}
+use Rattle.tree_scan.proofs.cursor.Cursor.go_on.Goals as goal
+
+pub go_down-requires-clause-levels : goal.go_down-requires-clause-levels
+go_down-requires-clause-levels g c =
+    let passed = c.go_up.ensures.passed in
+    levels_left g.P.PagesTells c.args.pages.now c.args.self.now.levels.items c.go_up.new.levels.items passed.0 passed.1.0 c.requires.fits
+
+pub returns-in-Err-clause-stays : goal.returns-in-Err-clause-stays
+returns-in-Err-clause-stays g c =
+    let p = g.P.PagesTells in
+    let old = c.args.pages.now in
+    let now = c.go_down.new.pages in
+    let still = reading_same p old c.requires.ready (p.follows_itself old) in
+    let passed = c.go_up.ensures.passed in
+    let up = keeps_up p old c.args.self.now.levels.items c.go_up.new.levels.items passed.0 still passed.1.0 c.requires.fits.0 passed.1.1 in
+    let keeps : KeepsComing p old c.args.self.now.levels.items c.go_down.new.levels.items now =
+    keeps_join p old old now c.args.self.now.levels.items c.go_up.new.levels.items c.go_down.new.levels.items still c.in-Err.ensures.reading up (c.in-Err.ensures.coming refl) in
+    stays_by p old now c.args.self.now _ c.requires.begun c.requires.begun refl keeps
+
+pub returns-in-Err-clause-barred : goal.returns-in-Err-clause-barred
+returns-in-Err-clause-barred g c =
+    let p = g.P.PagesTells in
+    let old = c.args.pages.now in
+    barred_as p old c.go_down.new.pages (λ (s : Shown). BreaksChild (p.last_page old) s c.go_down.new.levels.items)
+    (λ (s : Shown). BreaksOn (p.usable old) (p.last_page old) s c.go_down.new.levels.items) c.in-Err.why (λ shown page breaks. BreaksOn.AtChild breaks) c.in-Err.ensures.barred
+
+pub returns-in-Ok-None-clause-gives : goal.returns-in-Ok-None-clause-gives
+returns-in-Ok-None-clause-gives g c =
+    let p = g.P.PagesTells in
+    let old = c.args.pages.now in
+    let now = c.go_down.new.pages in
+    let still = reading_same p old c.requires.ready (p.follows_itself old) in
+    let passed = c.go_up.ensures.passed in
+    let up = keeps_up p old c.args.self.now.levels.items c.go_up.new.levels.items passed.0 still passed.1.0 c.requires.fits.0 passed.1.1 in
+    let keeps : KeepsComing p old c.args.self.now.levels.items c.go_down.new.levels.items now =
+    keeps_join p old old now c.args.self.now.levels.items c.go_up.new.levels.items c.go_down.new.levels.items still c.in-Ok.ensures.reading up (c.in-Ok.ensures.coming refl) in
+    gives_none p old now c.row_at.new.pages c.args.self.now _ c.requires.begun c.requires.begun refl c.in-Ok.ensures.reading c.in-Ok-None.ensures.reading keeps
+    (subst (λ (f : Option (ℤ × List Value)). TakesNext p now c.args.self.now.high c.go_down.new.levels.items f c.row_at.new.pages) c.in-Ok-None.field-0-is c.in-Ok-None.ensures.takes)
+
+pub returns-in-Ok-Some-clause-gives : goal.returns-in-Ok-Some-clause-gives
+returns-in-Ok-Some-clause-gives g c =
+    let p = g.P.PagesTells in
+    let old = c.args.pages.now in
+    let now = c.go_down.new.pages in
+    let still = reading_same p old c.requires.ready (p.follows_itself old) in
+    let passed = c.go_up.ensures.passed in
+    let up = keeps_up p old c.args.self.now.levels.items c.go_up.new.levels.items passed.0 still passed.1.0 c.requires.fits.0 passed.1.1 in
+    let keeps : KeepsComing p old c.args.self.now.levels.items c.go_down.new.levels.items now =
+    keeps_join p old old now c.args.self.now.levels.items c.go_up.new.levels.items c.go_down.new.levels.items still c.in-Ok.ensures.reading up (c.in-Ok.ensures.coming refl) in
+    gives_some p old now c.row_at.new.pages c.args.self.now _ c.go_down.new.levels.items c.in-Ok-Some.row c.requires.begun c.requires.begun refl c.in-Ok.ensures.reading c.in-Ok-Some.ensures.reading keeps c.step_on.ensures
+    (subst (λ (f : Option (ℤ × List Value)). TakesNext p now c.args.self.now.high c.go_down.new.levels.items f c.row_at.new.pages) c.in-Ok-Some.field-0-is c.in-Ok-Some.ensures.takes)
+
+pub returns-in-Err-row_at-clause-stays : goal.returns-in-Err-row_at-clause-stays
+returns-in-Err-row_at-clause-stays g c =
+    let p = g.P.PagesTells in
+    let old = c.args.pages.now in
+    let now = c.go_down.new.pages in
+    let still = reading_same p old c.requires.ready (p.follows_itself old) in
+    let passed = c.go_up.ensures.passed in
+    let up = keeps_up p old c.args.self.now.levels.items c.go_up.new.levels.items passed.0 still passed.1.0 c.requires.fits.0 passed.1.1 in
+    let keeps : KeepsComing p old c.args.self.now.levels.items c.go_down.new.levels.items now =
+    keeps_join p old old now c.args.self.now.levels.items c.go_up.new.levels.items c.go_down.new.levels.items still c.in-Ok.ensures.reading up (c.in-Ok.ensures.coming refl) in
+    stays_by p old c.row_at.new.pages c.args.self.now _ c.requires.begun c.requires.begun refl
+    (λ world told. keeps world (c.in-Err-row_at.ensures.reading.edits.narrows world told))
+
+pub returns-in-Ok-None-clause-fits : goal.returns-in-Ok-None-clause-fits
+returns-in-Ok-None-clause-fits g c =
+    levels_later g.P.PagesTells c.go_down.new.pages c.row_at.new.pages c.go_down.new.levels.items c.in-Ok-None.ensures.reading c.in-Ok.ensures.levels
+
+pub returns-in-Err-row_at-clause-fits : goal.returns-in-Err-row_at-clause-fits
+returns-in-Err-row_at-clause-fits g c =
+    levels_later g.P.PagesTells c.go_down.new.pages c.row_at.new.pages c.go_down.new.levels.items c.in-Err-row_at.ensures.reading c.in-Ok.ensures.levels
+
+pub returns-in-Err-row_at-clause-barred : goal.returns-in-Err-row_at-clause-barred
+returns-in-Err-row_at-clause-barred g c =
+    let p = g.P.PagesTells in
+    let old = c.args.pages.now in
+    let levels = c.go_down.new.levels.items in
+    barred_as p old c.row_at.new.pages (λ (s : Shown). BreaksNextRow (p.usable old) (p.last_page old) s levels)
+    (λ (s : Shown). BreaksOn (p.usable old) (p.last_page old) s levels) c.in-Err-row_at.why (λ shown page breaks. BreaksOn.AtRow breaks)
+    (barred_before p old c.go_down.new.pages c.row_at.new.pages (λ (u n : ℕ) (s : Shown). BreaksNextRow u n s levels) c.in-Err-row_at.why
+    c.in-Ok.ensures.reading c.in-Err-row_at.ensures.reading c.in-Err-row_at.ensures.barred)
+
+pub step_on-requires : goal.step_on-requires
+step_on-requires g c =
+    let levels = c.go_down.new.levels.items in
+    let there : 1 ≤ length levels = subst (λ (f : Option (ℤ × List Value)). MatchOption f (Unit {0}) (λ _. 1 ≤ length levels)) c.in-Ok-Some.field-0-is c.in-Ok-Some.ensures.there in
+    let cut = cut_last levels there in
+    let inside : cut.top.place < vec_len cut.top.node.cells = not_all (is_leaf cut.top.node.kind) (vec_len cut.top.node.cells) cut.top.place
+    (c.in-Ok.ensures.leaf cut.above cut.top cut.is) (c.in-Ok.ensures.left refl c.go_up.ensures.left cut.above cut.top cut.is) in
+    (cut.above, (cut.top, (cut.is, omega (arith, inside, cut.top.node.cells.small, cut.top.node.cells.ok.1))))
+
+pub returns-in-Ok-Some-clause-fits : goal.returns-in-Ok-Some-clause-fits
+returns-in-Ok-Some-clause-fits g c =
+    let p = g.P.PagesTells in
+    let levels = c.go_down.new.levels.items in
+    let there : 1 ≤ length levels = subst (λ (f : Option (ℤ × List Value)). MatchOption f (Unit {0}) (λ _. 1 ≤ length levels)) c.in-Ok-Some.field-0-is c.in-Ok-Some.ensures.there in
+    let cut = cut_last levels there in
+    let inside : cut.top.place < vec_len cut.top.node.cells = not_all (is_leaf cut.top.node.kind) (vec_len cut.top.node.cells) cut.top.place
+    (c.in-Ok.ensures.leaf cut.above cut.top cut.is) (c.in-Ok.ensures.left refl c.go_up.ensures.left cut.above cut.top cut.is) in
+    levels_later p c.go_down.new.pages c.row_at.new.pages c.step_on.new.levels.items c.in-Ok-Some.ensures.reading
+    (stepped_levels p c.go_down.new.pages levels c.step_on.new.levels.items cut.above cut.top c.in-Ok.ensures.levels cut.is inside (c.step_on.ensures cut.above cut.top cut.is))

@@ -1,0 +1,24 @@
+use Rattle.std.proofs.Common.{ℕ, List, [], ◌∷◌, ◌++◌, ap, ◌∙◌}
+use Rattle.tree_spec.specs.Shown.{Shown}
+use Rattle.tree_scan.specs.declared.level.Level.{Level}
+use Rattle.tree_scan.specs.Scanning.{BreaksChild, BreaksStart}
+use Rattle.tree_scan.proofs.Shows.{barred_before}
+use Rattle.tree_scan.proofs.Cursors.{starts_at, barred_as}
+use Rattle.tree_scan.proofs.path.first_path.Goals as goal
+
+pub returns-in-Ok-go_down-clause-at : goal.returns-in-Ok-go_down-clause-at
+returns-in-Ok-go_down-clause-at g c = λ rowid is.
+    starts_at g.P.PagesTells c.args.pages.now c.read_level.new.pages c.go_down.new.pages rowid c.args.root c.in-Ok.level c.push.new.self.items c.go_down.new.levels.items
+    c.in-Ok.ensures.reading c.in-Ok-go_down.ensures.reading c.in-Ok.ensures.page c.in-Ok.ensures.node (c.in-Ok.ensures.stands rowid is)
+    (c.in-Ok-push.ensures.items ∙ ap (λ (l : List Level). l ++ c.in-Ok.level ∷ []) c.requires.none) (c.in-Ok-go_down.ensures.sought rowid is) c.in-Ok-go_down.ensures.levels.0
+    c.in-Ok-go_down.ensures.leaf
+
+pub returns-in-Err-go_down-clause-barred : goal.returns-in-Err-go_down-clause-barred
+returns-in-Err-go_down-clause-barred g c =
+    let p = g.P.PagesTells in
+    let old = c.args.pages.now in
+    let levels = c.go_down.new.levels.items in
+    barred_as p old c.go_down.new.pages (λ (s : Shown). BreaksChild (p.last_page old) s levels) (λ (s : Shown). BreaksStart (p.last_page old) s c.args.root levels)
+    c.in-Err-go_down.why (λ shown page breaks. BreaksStart.BelowRoot breaks)
+    (barred_before p old c.read_level.new.pages c.go_down.new.pages (λ (u n : ℕ) (s : Shown). BreaksChild n s levels) c.in-Err-go_down.why
+    c.in-Ok.ensures.reading c.in-Err-go_down.ensures.reading c.in-Err-go_down.ensures.barred)

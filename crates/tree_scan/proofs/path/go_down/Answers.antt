@@ -1,0 +1,47 @@
+use Rattle.std.proofs.Common.{◌≡◌, ℕ, List, [], ◌∷◌, ◌++◌, sym, subst}
+use Rattle.page_face.proofs.PageLaws.{reading_join}
+use Rattle.tree_spec.specs.Shown.{Shown}
+use Rattle.tree_scan.specs.declared.level.Level.{Level}
+use Rattle.tree_scan.specs.Scanning.{IsBarred, BreaksChild}
+use Rattle.tree_scan.proofs.Shows.{keeps_join, sought_join, barred_before}
+use Rattle.tree_scan.proofs.path.go_down.Goals as goal
+
+pub enter-requires-clause-inner : goal.enter-requires-clause-inner
+enter-requires-clause-inner g c =
+    let found = c.at_leaf.ensures.inner c.if-at_leaf.false in
+    (found.0, (found.1.0, (found.1.1.0, (found.1.1.1, c.downs.invariant.inner found.0 found.1.0 found.1.1.0 found.1.1.1))))
+
+pub downs-preserved : goal.downs-preserved
+downs-preserved g c =
+    let p = g.P.PagesTells in
+    let before = c.downs.invariant in
+    record {
+      reading = reading_join p c.args.pages.now c.downs.pages c.enter.new.pages before.reading c.in-Ok.ensures.reading (p.follows_on);
+      levels = c.in-Ok.ensures.levels;
+      coming = λ none. keeps_join p c.args.pages.now c.downs.pages c.enter.new.pages c.args.levels.now.items c.downs.levels.items c.enter.new.levels.items before.reading c.in-Ok.ensures.reading
+          (before.coming none) (c.in-Ok.ensures.coming none);
+      sought = λ rowid is. sought_join p c.args.pages.now c.downs.pages c.enter.new.pages rowid c.args.levels.now.items c.downs.levels.items c.enter.new.levels.items before.reading
+          c.in-Ok.ensures.reading (before.sought rowid is) (c.in-Ok.ensures.sought rowid is);
+      inner = c.in-Ok.ensures.inner;
+      left = λ none first. c.in-Ok.ensures.left none;
+    }
+
+pub returns-in-Err-clause-coming : goal.returns-in-Err-clause-coming
+returns-in-Err-clause-coming g c = λ none.
+    keeps_join g.P.PagesTells c.args.pages.now c.downs.pages c.enter.new.pages c.args.levels.now.items c.downs.levels.items c.enter.new.levels.items c.downs.invariant.reading
+    c.in-Err.ensures.reading (c.downs.invariant.coming none) (c.in-Err.ensures.coming none)
+
+pub returns-in-Err-clause-left : goal.returns-in-Err-clause-left
+returns-in-Err-clause-left g c = λ none first above top are. c.downs.invariant.left none first above top (subst (λ (l : List Level). l ≡ above ++ top ∷ []) c.in-Err.ensures.kept are)
+
+pub returns-in-Err-clause-barred : goal.returns-in-Err-clause-barred
+returns-in-Err-clause-barred g c =
+    subst (λ (l : List Level). IsBarred g.P.PagesTells c.args.pages.now c.enter.new.pages (λ (shown : Shown). BreaksChild (g.P.PagesTells.last_page c.args.pages.now) shown l) c.in-Err.why)
+    (sym c.in-Err.ensures.kept)
+    (barred_before g.P.PagesTells c.args.pages.now c.downs.pages c.enter.new.pages (λ (u n : ℕ) (s : Shown). BreaksChild n s c.downs.levels.items) c.in-Err.why
+    c.downs.invariant.reading c.in-Err.ensures.reading c.in-Err.ensures.barred)
+
+pub returns-in-Err-clause-sought : goal.returns-in-Err-clause-sought
+returns-in-Err-clause-sought g c = λ rowid is.
+    sought_join g.P.PagesTells c.args.pages.now c.downs.pages c.enter.new.pages rowid c.args.levels.now.items c.downs.levels.items c.enter.new.levels.items c.downs.invariant.reading
+    c.in-Err.ensures.reading (c.downs.invariant.sought rowid is) (c.in-Err.ensures.sought rowid is)
