@@ -1,25 +1,27 @@
 -- What a store with its readers beside it tells, as an engine.
-use Rattle.std.specs.Prelude.{ℕ, List}
+use Rattle.std.specs.Prelude.{ℕ, List, Result, Ok, Err}
 use Rattle.disk_face.specs.declared.tells.DiskTells.{Ghosts as DiskGhosts}
 use Rattle.page_spec.specs.PageMap.{PageMap}
-use Rattle.engine_spec.specs.declared.pins.Readers.{Readers}
 use Rattle.engine_spec.specs.Good.{RunsFrom}
 use Rattle.page_face.specs.declared.means.Means.{Ghosts as Meaning}
 use Rattle.page_face.specs.declared.engine_tells.EngineTells.{Ghosts}
 use Rattle.page_face.specs.Pins.{IsLive}
 use Rattle.store_spec.proofs.Runs.{runs}
+use Rattle.store.specs.declared.open_fault.OpenFault.{OpenFault}
 use Rattle.store.specs.declared.store.Store.{Store}
 use Rattle.store.specs.declared.solo.Solo.{Solo}
 use Rattle.store.specs.Kept.{kept_of}
+pub use Rattle.store.specs.Opening.{no_readers}
 use Rattle.store.specs.Tells.{store_tells}
-
--- no reader holds a lock
-abbrev pub no_readers : Readers
-no_readers = record { part1 = 0; part1_full2 = 0; part2 = 0; part2_full1 = 0 }
 
 -- the store of an engine
 abbrev pub store_of : {D W M : Type 0} → Solo D W M → Store D W M
 store_of solo = solo.store
+
+-- the answer to an opening, said of the store
+abbrev pub as_store : {D W M : Type 0} → Result (Solo D W M) (OpenFault × D) → Result (Store D W M) (OpenFault × D)
+as_store (Ok solo) = Ok solo.store
+as_store (Err refused) = Err refused
 
 -- It tells what its store does with the readers that it counts.
 abbrev pub solo_tells : {D W M : Type 0} → DiskGhosts D → (W → List ℕ) → Meaning M → Ghosts (Solo D W M) M

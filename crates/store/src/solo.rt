@@ -1,23 +1,35 @@
 // A store as an engine: its readers are counted beside it.
 //
 // Its invariant is that of its store (`IsLiveIn`): each pin that holds is counted among the readers of its lock.
-ghost use Rattle.std.specs.Prelude.{◌≡◌, []};
+ghost use Rattle.std.specs.Prelude.{◌≡◌, ◌≤◌, [], true, Some, IfOk, IfErr, IfSome, IsTrue};
 ghost use Rattle.disk_face.specs.Faults.{one_more};
+ghost use Rattle.disk_face.specs.Stays.{OnlyWrites};
+ghost use Rattle.disk_face.specs.Steps.{History, reads};
+ghost use Rattle.page_spec.specs.Header.{is_page_size};
 ghost use Rattle.page_spec.specs.PageMap.{PageMap};
-ghost use Rattle.crash_spec.specs.Opening.{Opening};
+ghost use Rattle.crash_spec.specs.Opening.{Opening, opening_at};
+ghost use Rattle.crash_spec.specs.Passes.{Passes};
+ghost use Rattle.opening_spec.specs.Begins.{MayOpen, view_at};
 ghost use Rattle.engine_spec.specs.TwoLogs.{one_fewer, change_readers};
 ghost use Rattle.page_face.specs.Pins.{IsLive};
 ghost use Rattle.page_face.specs.Prepared.{IsFit};
 ghost use Rattle.page_face.specs.Calls.{HasCommitted, IsGoodForOthers};
+ghost use Rattle.recover.specs.Ready.{LeavesSettling};
+ghost use Rattle.recover.specs.declared.setup.StoreKind.TheVariants.{Pages};
+ghost use Rattle.store.specs.Kept.{kept_of, state_of};
+ghost use Rattle.store.specs.Opening.{AreOpened, HasSizesOf, IsBeginning, MaySettle, StandsAs, RefusesOpen, disk_of, map_opened, size_opened};
 ghost use Rattle.store.specs.Tells.{store_tells};
-ghost use Rattle.store.specs.Solo.{no_readers, store_of, solo_tells};
+ghost use Rattle.store.specs.Solo.{as_store, no_readers, store_of, solo_tells};
 
+use crate::open_fault::OpenFault;
 use crate::store::Store;
 use disk_face::{Disk, Failed, Salts};
 use page_face::{
     Ckpt, CommitFault, Engine, EngineTells, FetchFault, Lock, Logs, Means, Pin, Prepared, Readers,
     Receipt, Who,
 };
+use recover::Setup;
+use std::alloc::Global;
 
 /// A store over a disk, and how many readers hold each lock. Nobody else begins, commits or ends on it.
 #[derive(Drop)]
@@ -54,6 +66,41 @@ impl<D: Disk, W: Salts, M: Means> Solo<D, W, M> {
         ensures { result ≡ store_of self }
     {
         self.store
+    }
+}
+
+impl<D: Disk, W: Salts + Drop, M: Means> Solo<D, W, M> {
+    /// Opens the database of a disk as [`Store::open`] does, as an engine with no reader. What is left after a refusal is said there.
+    pub fn open(
+        alloc: Global,
+        disk: D,
+        salts: W,
+        setup: Setup,
+    ) -> Result<Solo<D, W, M>, (OpenFault, D)>
+        requires attached { D.attached disk ≡ true }
+        requires page_size { IsTrue (is_page_size setup.page_size) }
+        requires limit { 1 ≤ setup.limit }
+        requires kind { setup.kind ≡ Pages }
+        ensures begins { IfOk result (λ solo. IsBeginning (store_of solo).page_size (store_of solo).usable setup.limit (kept_of (store_of solo))) }
+        ensures sizes { IfOk result (λ solo. IfSome (D.told disk) (λ told. HasSizesOf setup.page_size (reads told) (kept_of (store_of solo)))) }
+        ensures state { IfOk result (λ solo. ⟦<Solo<D, W, M> as EngineTells<M>>⟧.state solo ≡ state_of D.DiskTells (store_of solo) no_readers) }
+        ensures live { IfOk result (λ solo. IfSome (D.told disk) (λ told. MaySettle (reads told)) → ⟦<Solo<D, W, M> as EngineTells<M>>⟧.live solo []) }
+        ensures newest { IfOk result (λ solo. IfSome (D.told disk) (λ told. MaySettle (reads told)
+            → (⟦<Solo<D, W, M> as EngineTells<M>>⟧.state solo).newest ≡ Some (map_opened setup.page_size (reads told)))) }
+        ensures runs { IfOk result (λ solo. (first : PageMap) → IfSome (D.told disk) (λ told. MaySettle (reads told) × (first ≡ map_opened setup.page_size (reads told)) × M.sound first first)
+            → ⟦<Solo<D, W, M> as EngineTells<M>>⟧.stands_from solo first) }
+        ensures moments { (told : History) → D.told disk ≡ Some told → MayOpen (size_opened setup.page_size (reads told)) told → MaySettle (reads told)
+            → Passes (opening_at told) (LeavesSettling (view_at (size_opened setup.page_size (reads told)) told) (map_opened setup.page_size (reads told))) (StandsAs (as_store result) (opening_at told)) (D.told disk) (D.told (disk_of (as_store result))) }
+        ensures opened { IfOk result (λ solo. IfSome (D.told disk) (λ told. AreOpened (D.journal_answer disk) (reads told))) }
+        ensures refused { IfErr result (λ refused. RefusesOpen (D.faults disk) (D.faults refused.1) (D.told disk) (D.told refused.1) (D.journal_answer disk) refused.0) }
+        ensures faults { IfOk result (λ solo. D.faults (store_of solo).disk ≡ D.faults disk) }
+        ensures stays { OnlyWrites D.DiskTells disk (disk_of (as_store result)) }
+        ensures loans { IfOk result (λ solo. W.loans (store_of solo).salts ≡ W.loans salts) }
+    {
+        match Store::open(alloc, disk, salts, setup) {
+            Ok(store) => Ok(Solo::new(store)),
+            Err(refused) => Err(refused),
+        }
     }
 }
 
