@@ -101,11 +101,11 @@ module _ {D W M : Type 0} (disk : DiskGhosts D) (loans : W → List ℕ) (means 
   laid_each : (now : Option History) (kept : StoreData) (faults : ℕ) (first : PageMap) → PinHolds now kept pin → NoConflict prepared.mode prepared.reads prepared.snap kept.history
       → StandsFrom (means.sound first) (means.leads first) first now kept readers
       → IfSome (newest_told kept now) (IsLaidOn (means.sound first) (means.leads first first) (pin_told kept now pin) prepared (store_state now faults kept readers))
-  laid_each None data faults first pinned free stands = tt
-  laid_each (Some now) data faults first pinned free stands = record {
+  laid_each None seen faults first pinned free stands = tt
+  laid_each (Some now) seen faults first pinned free stands = record {
     is_sound = stands.newest.0;
     led = stands.newest.1;
-    may_lay = pinned.agrees prepared.mode prepared.reads (subst (λ (n : ℕ). NoConflict prepared.mode prepared.reads n data.history) fit.snap free) fit.first_page;
+    may_lay = pinned.agrees prepared.mode prepared.reads (subst (λ (n : ℕ). NoConflict prepared.mode prepared.reads n seen.history) fit.snap free) fit.first_page;
   }
 
   -- the frames were written, and the commit was entered
