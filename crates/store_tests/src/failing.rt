@@ -182,7 +182,7 @@ fn any_failed(run: &Run) -> bool {
 fn judged(alloc: Global, run: &Run) -> Result<Option<PlainMaps>, AllocError> {
     let mut plain = PlainMaps::new(alloc)?;
     let right = match &run.told {
-        Ok(told) => takes_all(&mut plain, told)? && run.commits == plain.commits(),
+        Ok(told) => takes_all(&mut plain, told)? && run.entries.len() == plain.commits(),
         Err(fault) => *fault == OpenFault::Disk,
     };
     Ok(if right { Some(plain) } else { None })
@@ -214,9 +214,11 @@ fn recovers(alloc: Global, run: &Run, pick: &[u8], plain: &PlainMaps) -> Result<
 fn recovers_each(alloc: Global, run: &Run, plain: &PlainMaps) -> Result<bool, AllocError> {
     let wild = filled(alloc, 255)?;
     let old = run.disk.old_bytes()?;
-    Ok(recovers(alloc, run, &[], plain)?
-        && recovers(alloc, run, &wild, plain)?
-        && recovers(alloc, run, &old, plain)?)
+    Ok(
+        recovers(alloc, run, &[], plain)?
+            && recovers(alloc, run, &wild, plain)?
+            && recovers(alloc, run, &old, plain)?,
+    )
 }
 
 /// What the script shows where this call fails: it alone is told, and after the write or sync of a log each later commit is refused with the place.
@@ -289,12 +291,22 @@ fn each_call_fails_in_turn(rt: HostRuntime) -> Result<(), test::Fail> {
         (File::Main, Call::Journal, 1),
     ];
     for (file, call, count) in cases {
-        assert_eq!(rt; count_failing(rt.alloc(), file, call)?, Ok(count), "{file:?} {call:?}");
+        assert_eq!(rt;
+            count_failing(rt.alloc(), file, call)?,
+            Ok(count),
+            "{file:?} {call:?}"
+        );
     }
     // How often it reads and asks for sizes isn't said.
     for file in [File::Main, File::Log1, File::Log2] {
-        assert!(rt; count_failing(rt.alloc(), file, Call::Read)?.is_ok(), "{file:?}");
-        assert!(rt; count_failing(rt.alloc(), file, Call::Size)?.is_ok(), "{file:?}");
+        assert!(rt;
+            count_failing(rt.alloc(), file, Call::Read)?.is_ok(),
+            "{file:?}"
+        );
+        assert!(rt;
+            count_failing(rt.alloc(), file, Call::Size)?.is_ok(),
+            "{file:?}"
+        );
     }
     Ok(())
 }

@@ -80,7 +80,11 @@ impl PlainMaps {
 
     fn seat(&self, session: u32) -> Seat {
         let at = session as usize;
-        if at < self.seats.len() { self.seats[at] } else { OUT }
+        if at < self.seats.len() {
+            self.seats[at]
+        } else {
+            OUT
+        }
     }
 
     fn put(&mut self, session: u32, seat: Seat) {
@@ -158,7 +162,14 @@ impl PlainMaps {
         match act {
             Act::Begin { session } => {
                 let snap = self.commits();
-                self.put(session, Seat { open: true, snap, ..OUT });
+                self.put(
+                    session,
+                    Seat {
+                        open: true,
+                        snap,
+                        ..OUT
+                    },
+                );
                 Ok(told == Told::Ok)
             }
             Act::Read { session, page } => Ok(self.reads(session, page, told)),
@@ -175,7 +186,13 @@ impl PlainMaps {
             Act::Rollback { session } => {
                 let seat = self.seat(session);
                 self.put(session, OUT);
-                Ok(told == if seat.open { Told::Ok } else { Told::NoTransaction })
+                Ok(
+                    told == if seat.open {
+                        Told::Ok
+                    } else {
+                        Told::NoTransaction
+                    },
+                )
             }
             Act::Copy | Act::Step => Ok(matches!(told, Told::Ckpt(_)) || self.fails(told)),
             Act::Logs => Ok(matches!(told, Told::Logs(_))),

@@ -83,7 +83,13 @@ impl Quiet {
                 return Err(Failed);
             }
         }
-        let disk = MemDisk::new(alloc, Vec::new(alloc), Vec::new(alloc), Vec::new(alloc), named);
+        let disk = MemDisk::new(
+            alloc,
+            Vec::new(alloc),
+            Vec::new(alloc),
+            Vec::new(alloc),
+            named,
+        );
         Quiet::over(alloc, disk)
     }
 
@@ -118,9 +124,24 @@ impl Quiet {
         let zeros = self.disk.crash(&filled(self.alloc, 0)?)?;
         let wild = self.disk.crash(&filled(self.alloc, 255)?)?;
         let mut pick = Vec::new(self.alloc);
-        add_old(&mut pick, zeros.file(File::Main), wild.file(File::Main), &self.main)?;
-        add_old(&mut pick, zeros.file(File::Log1), wild.file(File::Log1), &self.log1)?;
-        add_old(&mut pick, zeros.file(File::Log2), wild.file(File::Log2), &self.log2)?;
+        add_old(
+            &mut pick,
+            zeros.file(File::Main),
+            wild.file(File::Main),
+            &self.main,
+        )?;
+        add_old(
+            &mut pick,
+            zeros.file(File::Log1),
+            wild.file(File::Log1),
+            &self.log1,
+        )?;
+        add_old(
+            &mut pick,
+            zeros.file(File::Log2),
+            wild.file(File::Log2),
+            &self.log2,
+        )?;
         Ok(pick)
     }
 }

@@ -11,10 +11,10 @@ use std::alloc::Global;
 use std::test;
 
 /// The bytes of a page in these runs.
-const PAGE: u32 = 4096;
+pub const PAGE: u32 = 4096;
 
 /// Over to the other log, and what is behind is copied once its last reader is gone.
-const SWITCH: &[Line] = &[
+pub const SWITCH: &[Line] = &[
     Line::Begin(1),
     Line::Write(1, 2, 7),
     Line::Commit(1, 1),
@@ -117,8 +117,22 @@ const CONFLICTS: &[Line] = &[
     Line::Busy(1, 4, 5),
 ];
 
+/// The sync of the header of log 2: the second of that log, since the opening takes one.
+pub const HEADER_SYNC: Option<Fail> = Some(Fail {
+    file: File::Log2,
+    call: Call::Sync,
+    nth: 2,
+});
+
+/// The sync of the second commit: the fifth of log 1, since the opening takes three.
+pub const SECOND_SYNC: Option<Fail> = Some(Fail {
+    file: File::Log1,
+    call: Call::Sync,
+    nth: 5,
+});
+
 /// The header of the other log isn't on the medium: nothing is committed any more, and pages are read.
-const TORN_HEADER: &[Line] = &[
+pub const TORN_HEADER: &[Line] = &[
     Line::Begin(1),
     Line::Write(1, 2, 7),
     Line::Commit(1, 1),
@@ -141,7 +155,7 @@ const TORN_HEADER: &[Line] = &[
 ];
 
 /// The frames of the second commit aren't on the medium.
-const TORN_FRAME: &[Line] = &[
+pub const TORN_FRAME: &[Line] = &[
     Line::Begin(1),
     Line::Write(1, 2, 7),
     Line::Commit(1, 1),
@@ -154,7 +168,12 @@ const TORN_FRAME: &[Line] = &[
 
 /// The answers of a store on three empty files, where the call that is named fails. None where all lines are answered as they say.
 #[tactic(auto, unfolding(page_spec::specs::Header::is_page_size))]
-fn first_wrong(alloc: Global, limit: u32, failing: Option<Fail>, lines: &[Line]) -> Result<Option<usize>, Failed>
+fn first_wrong(
+    alloc: Global,
+    limit: u32,
+    failing: Option<Fail>,
+    lines: &[Line],
+) -> Result<Option<usize>, Failed>
     requires { 1 ≤ limit }
 {
     let disk = Quiet::empty(alloc, failing)?;
@@ -164,22 +183,13 @@ fn first_wrong(alloc: Global, limit: u32, failing: Option<Fail>, lines: &[Line])
     }
 }
 
-/// A sync that fails.
-const fn sync(file: File, nth: u64) -> Option<Fail> {
-    Some(Fail {
-        file,
-        call: Call::Sync,
-        nth,
-    })
-}
-
 #[test]
 fn runs_that_are_worked_by_hand(rt: HostRuntime) -> Result<(), test::Fail> {
     let alloc = rt.alloc();
     assert_eq!(rt; first_wrong(alloc, 4, None, SWITCH), Ok(None));
     assert_eq!(rt; first_wrong(alloc, 4, None, FULL_READER), Ok(None));
     assert_eq!(rt; first_wrong(alloc, 1000, None, CONFLICTS), Ok(None));
-    assert_eq!(rt; first_wrong(alloc, 4, sync(File::Log2, 2), TORN_HEADER), Ok(None));
-    assert_eq!(rt; first_wrong(alloc, 4, sync(File::Log1, 5), TORN_FRAME), Ok(None));
+    assert_eq!(rt; first_wrong(alloc, 4, HEADER_SYNC, TORN_HEADER), Ok(None));
+    assert_eq!(rt; first_wrong(alloc, 4, SECOND_SYNC, TORN_FRAME), Ok(None));
     Ok(())
 }

@@ -7,17 +7,18 @@ use crate::lines::Line;
 use crate::quiet::Quiet;
 use acts::play;
 use disk_mem::FixedSalts;
+use engine_spec::Entry;
 use page_lines::{Act, Raw, Told};
 use recover::{Setup, StoreKind};
 use std::alloc::{AllocError, Global};
 use store::{OpenFault, Solo, Store};
 
-/// The disk behind a run, what each line was answered, and how many commits the history then had; or why it wasn't opened.
+/// The disk behind a run, what each line was answered, or why it wasn't opened, and the entries of the history then.
 #[derive(Drop)]
 pub struct Run {
     pub disk: Quiet,
     pub told: Result<Vec<Told>, OpenFault>,
-    pub commits: usize,
+    pub entries: Vec<Entry>,
 }
 
 // Whether the page of an act is one that page lines may name.
@@ -53,10 +54,17 @@ fn add_act(acts: &mut Vec<Act>, act: Act) -> Result<(), AllocError>
 
 /// Opens a page store of this page size and limit, and plays lines on it.
 #[tactic(auto, unfolding(page_spec::specs::Header::is_page_size))]
-pub fn opens(alloc: Global, disk: Quiet, page_size: u32, limit: u32, lines: &[Line]) -> Result<Run, AllocError>
+pub fn opens(
+    alloc: Global,
+    disk: Quiet,
+    page_size: u32,
+    limit: u32,
+    lines: &[Line],
+) -> Result<Run, AllocError>
     requires attached { disk.disk.attached ≡ true }
     requires page_size { IsTrue (is_page_size page_size) }
     requires limit { 1 ≤ limit }
+    ensures attached { IfOk result (λ run. run.disk.disk.attached ≡ true) }
 {
     let acts = acts_of(alloc, lines)?;
     let setup = Setup {
@@ -73,18 +81,26 @@ pub fn opens(alloc: Global, disk: Quiet, page_size: u32, limit: u32, lines: &[Li
             Ok(Run {
                 disk,
                 told: Ok(told),
-                commits: entries.len(),
+                entries,
             })
         }
         Err((fault, disk)) => Ok(Run {
             disk,
             told: Err(fault),
-            commits: 0,
+            entries: Vec::new(alloc),
         }),
     }
 }
 
 impl Run {
+    /// Whether a line told the byte 0.
+    pub fn tells_zero(&self, at: usize) -> bool {
+        match &self.told {
+            Ok(told) => at < told.len() && told[at] == Told::Byte(0),
+            Err(_) => false,
+        }
+    }
+
     /// The first line that wasn't answered as it says, if there is one; the first of all where the store wasn't opened.
     pub fn first_wrong(&self, lines: &[Line]) -> Option<usize> {
         match &self.told {
