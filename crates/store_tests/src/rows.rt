@@ -183,6 +183,39 @@ fn first_wrong(
     }
 }
 
+/// A commit for which a page can't be read is refused, and goes well when it is asked for again.
+const READ_IN_VAIN: &[Line] = &[
+    Line::Begin(1),
+    Line::Write(1, 2, 7),
+    Line::Disk(1),
+    Line::Read(1, 2, 7),
+    Line::Commit(1, 1),
+    Line::Begin(2),
+    Line::Read(2, 2, 7),
+    Line::Read(2, 3, 0),
+];
+
+/// Whether there is a read of Main for which that holds. How many reads there are before it isn't said.
+fn commits_again(alloc: Global) -> Result<bool, Failed> {
+    for nth in 1..100 {
+        let fail = Fail {
+            file: File::Main,
+            call: Call::Read,
+            nth,
+        };
+        if first_wrong(alloc, 4, Some(fail), READ_IN_VAIN)?.is_none() {
+            return Ok(true);
+        }
+    }
+    Ok(false)
+}
+
+#[test]
+fn a_commit_that_is_handed_back_goes_well_later(rt: HostRuntime) -> Result<(), test::Fail> {
+    assert!(rt; commits_again(rt.alloc())?);
+    Ok(())
+}
+
 #[test]
 fn runs_that_are_worked_by_hand(rt: HostRuntime) -> Result<(), test::Fail> {
     let alloc = rt.alloc();

@@ -1,4 +1,4 @@
-use Rattle.std.proofs.Common.{◌≡◌, true, []}
+use Rattle.std.proofs.Common.{[]}
 use Rattle.store_tests.proofs.trial.opens.Goals as goal
 
 pub returns-in-Ok : goal.returns-in-Ok
