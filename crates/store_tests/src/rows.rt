@@ -39,6 +39,31 @@ pub const SWITCH: &[Line] = &[
     Line::Copy(Ckpt::Idle),
 ];
 
+/// A snapshot in the middle of log 1 outlives a commit to that log and the switch.
+const OLD_READER: &[Line] = &[
+    Line::Begin(1),
+    Line::Write(1, 2, 7),
+    Line::Commit(1, 1),
+    Line::Begin(5),
+    Line::Begin(1),
+    Line::Write(1, 2, 8),
+    Line::Commit(1, 2),
+    Line::Begin(1),
+    Line::Write(1, 4, 9),
+    Line::Commit(1, 3),
+    Line::Logs(2, 2, false),
+    Line::Read(5, 2, 7),
+    Line::Read(5, 4, 0),
+    Line::Copy(Ckpt::Held(1)),
+    Line::Begin(2),
+    Line::Read(2, 2, 8),
+    Line::Read(2, 4, 9),
+    Line::End(5, 1),
+    Line::Copy(Ckpt::Finished),
+    Line::Read(2, 2, 8),
+    Line::End(2, 3),
+];
+
 /// A reader of all of log 1 below log 2 keeps log 1 from being written anew, though it is copied.
 const FULL_READER: &[Line] = &[
     Line::Begin(1),
@@ -220,6 +245,7 @@ fn a_commit_that_is_handed_back_goes_well_later(rt: HostRuntime) -> Result<(), t
 fn runs_that_are_worked_by_hand(rt: HostRuntime) -> Result<(), test::Fail> {
     let alloc = rt.alloc();
     assert_eq!(rt; first_wrong(alloc, 4, None, SWITCH), Ok(None));
+    assert_eq!(rt; first_wrong(alloc, 4, None, OLD_READER), Ok(None));
     assert_eq!(rt; first_wrong(alloc, 4, None, FULL_READER), Ok(None));
     assert_eq!(rt; first_wrong(alloc, 1000, None, CONFLICTS), Ok(None));
     assert_eq!(rt; first_wrong(alloc, 4, HEADER_SYNC, TORN_HEADER), Ok(None));
