@@ -117,12 +117,7 @@ fn begins_outside(first: u32, size: u64, last: u32) -> bool
 }
 
 /// The bytes that a cell of a page stores of its payload.
-pub fn local_of(
-    alloc: Global,
-    cell: &Cell,
-    kind: Kind,
-    page: &[u8],
-) -> Result<Vec<u8>, FetchFault>
+pub fn local_of(alloc: Global, cell: &Cell, kind: Kind, page: &[u8]) -> Result<Vec<u8>, FetchFault>
     requires { (usable : ℕ) × ((node : NodeCell) × TellsCell usable kind page.now cell.now node) }
     ensures copied { IfOk result (λ bytes. (usable : ℕ) (node : NodeCell) → usable ≤ 65536 → TellsCell usable kind page.now cell.now node
         → IsCopied cell.now node bytes.items) }
