@@ -1,10 +1,9 @@
 -- A run of page lines over an engine that rests at a world is answered as the run over whole page maps is.
-use Rattle.std.proofs.Common.{◌≡◌, ℕ, ◌+◌, ◌<◌, ◌≤◌, true, List, [], ◌∷◌, ◌++◌, length, take, get_or, Option, Some, None, refl, sym, subst, ap, ◌∙◌, inl, inr, arith, length-append}
+use Rattle.std.proofs.Common.{◌≡◌, ℕ, ◌+◌, ◌≤◌, true, List, [], ◌∷◌, ◌++◌, length, take, get_or, Option, Some, None, refl, sym, subst, ap, ◌∙◌, inl, inr, arith, length-append}
 use Rattle.std.specs.Prelude.{◌⊎◌}
-use Rattle.std.proofs.lemmas.Bool.{cases_lt}
 use Rattle.std.proofs.lemmas.List.{length-take-le, get_or_push}
 use Rattle.std.proofs.lemmas.List.Elements.{All-head, All-tail}
-use Rattle.disk_face.specs.Faults.{Rose, last_count}
+use Rattle.disk_face.specs.Faults.{Rose}
 use Rattle.page_spec.specs.PageMap.{PageMap, page_size_of}
 use Rattle.engine_spec.specs.declared.pins.Pin.{Pin}
 use Rattle.page_lines.specs.declared.lines.Act.{Act}
@@ -18,6 +17,7 @@ use Rattle.page_lines.specs.Alike.{AreAlike, AreAlikeSince}
 use Rattle.page_lines.proofs.Alone.{IsStore, page-long}
 use Rattle.page_lines.proofs.AlikeLaw.{since_answers, out_since}
 use Rattle.page_lines.proofs.GoingOn.{out_may}
+use Rattle.page_lines.proofs.Rises.{rose_first, rose_then}
 use Rattle.acts.specs.declared.seats.Seat.{Seat}
 use Rattle.acts.specs.declared.seats.State.TheVariants as seat
 use Rattle.acts.specs.Pagers.{Between, Plays, AreSound}
@@ -48,21 +48,6 @@ minds_others seen mid one acts answer answers stays minds = elim minds [
   | inr both ↦ inr (All-tail IsOfSession one acts both.0, All-tail HasNoLimit answer answers both.1)
 ]
 
--- a count that didn't rise over two moves rose in neither
-rose_first : (old mid new : ℕ) → mid ≤ new → Rose old mid → Rose old new
-rose_first old mid new more rose = record { later = omega (arith, rose.later); counted = by_count rose.counted (cases_lt mid new) }
-  where
-    by_count : (old < mid) ⊎ (mid ≡ last_count) → (mid < new) ⊎ (new ≤ mid) → (old < new) ⊎ (new ≡ last_count)
-    by_count (inl less) other = (let sure = rose.later in inl (omega arith))
-    by_count (inr last) (inl less) = (let sure = rose.later in inl (omega arith))
-    by_count (inr last) (inr same) = inr (omega arith)
-
-rose_then : (old mid new : ℕ) → old ≤ mid → Rose mid new → Rose old new
-rose_then old mid new more rose = record {
-  later = omega (arith, rose.later);
-  counted = elim (rose.counted) [ inl less ↦ inl (omega arith) | inr last ↦ inr last ];
-}
-
 -- Acts over an engine that is alone and stands at a world are answered as the world is, one after another.
 plays_answered : (opened : Opening → Type 0) (old : EngineState) (maps : Pin → Option PageMap) (seats : List Seat) (acts : List Act)
     (answers : List Told) (new : EngineState) (world : World) → old.alone ≡ true → AreInRange acts → StandsAt old maps seats world
@@ -72,7 +57,7 @@ plays_answered opened old maps seats [] [] new world here range stands sound qui
 plays_answered opened old maps seats [] (answer ∷ answers) new world here range stands sound quiet minds never = absurd never
 plays_answered opened old maps seats (one ∷ acts) [] new world here range stands sound quiet minds never = absurd never
 plays_answered opened old maps seats (one ∷ acts) (answer ∷ answers) new world here range stands sound quiet minds
-    (mid, maps_then, seats_then, acted, keeps, rest) =
+    (mid, maps_then, seats_then, acted, keeps, leaves, rest) =
     let engine : Between =
     record { opened = opened; old = old; new = mid; map_before = maps; map_after = maps_then } in
     let goes : GoesOn old mid = acts_go opened old mid maps maps_then seats one answer seats_then acted in

@@ -219,11 +219,13 @@ grew_on old mid new first then = record {
   faults = omega (arith, first.faults, then.faults);
 }
 
--- What an engine tells goes on: it grew, its page size stays, who may commit stays, and where it keeps no logs it goes on to keep none.
+-- What an engine tells goes on: it grew, its page size stays, who may commit and whether a transaction may always begin stays, and where
+-- it keeps no logs it goes on to keep none.
 pub record GoesOn (old new : EngineState) : Type 0 where
   pub grew : Grew old new
   pub page_size : new.page_size ≡ old.page_size
   pub alone : new.alone ≡ old.alone
+  pub always : new.always_begins ≡ old.always_begins
   pub no_logs : old.logs ≡ None → new.logs ≡ None
 
 -- it does so twice
@@ -232,6 +234,7 @@ goes_twice old mid new first then = record {
   grew = grew_on old mid new first.grew then.grew;
   page_size = then.page_size ∙ first.page_size;
   alone = then.alone ∙ first.alone;
+  always = then.always ∙ first.always;
   no_logs = λ none. then.no_logs (first.no_logs none);
 }
 
@@ -249,6 +252,7 @@ goes_but old new stopped faults logs readers disk is more none = subst (GoesOn o
   };
   page_size = refl;
   alone = refl;
+  always = refl;
   no_logs = none;
 })
 
@@ -276,6 +280,7 @@ goes_later old new later = record {
   };
   page_size = later.page_size;
   alone = later.alone;
+  always = later.always_begins;
   no_logs = still_none old.logs new.logs later.keeps_logs;
 }
 
@@ -335,6 +340,7 @@ goes_accepts opened mid done asked (At number) accepts = record {
   };
   page_size = ap (λ (seen : EngineState). seen.page_size) accepts.after_is;
   alone = ap (λ (seen : EngineState). seen.alone) accepts.after_is;
+  always = ap (λ (seen : EngineState). seen.always_begins) accepts.after_is;
   no_logs = λ none.
       ap (λ (seen : EngineState). seen.logs) accepts.after_is
       ∙ ap (option_map (λ (logs : TwoLogs). to_write logs mid.readers mid.history)) none;
@@ -450,7 +456,7 @@ acts_go opened old new maps maps_then before act.Logs told after (same, (mid, la
 pub plays_go : (opened : Opening → Type 0) (old : EngineState) (maps : Pin → Option PageMap) (seats : List Seat) (acts : List Act) (answers : List Told)
     (new : EngineState) → Plays opened old maps seats acts answers new → GoesOn old new
 plays_go opened old maps seats [] [] new ends = goes_all (pins_of seats) old new ends
-plays_go opened old maps seats (act ∷ acts) (answer ∷ answers) new (mid, maps_then, seats_then, acted, keeps, rest) =
+plays_go opened old maps seats (act ∷ acts) (answer ∷ answers) new (mid, maps_then, seats_then, acted, keeps, leaves, rest) =
     goes_twice old mid new (acts_go opened old mid maps maps_then seats act answer seats_then acted)
     (plays_go opened mid maps_then seats_then acts answers new rest)
 plays_go opened old maps seats [] (answer ∷ answers) new never = absurd never

@@ -4,6 +4,14 @@ pub mod Standing
 pub mod StandingStatements
 pub mod StandingCommits
 pub mod StandingActs
+pub mod LoggedStanding
+pub mod LoggedStatements
+pub mod LoggedBars
+pub mod LoggedLaying
+pub mod LoggedCommits
+pub mod PagesAbove
+pub mod LoggedSteps
+pub mod LoggedChecks
 pub mod Places
 pub mod Outcomes
 pub mod Seatings
@@ -13,3 +21,5 @@ pub mod Endings
 pub mod Runs
 pub mod Soundness
 pub mod Answered
+pub mod LoggedActs
+pub mod LoggedPlays

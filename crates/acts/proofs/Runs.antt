@@ -9,17 +9,18 @@ use Rattle.page_lines.specs.declared.lines.Told.{Told}
 use Rattle.crash_spec.specs.Opening.{Opening}
 use Rattle.engine_spec.specs.State.{EngineState}
 use Rattle.acts.specs.declared.seats.Seat.{Seat}
-use Rattle.acts.specs.Pagers.{Acts, KeepsMaps, Plays, pins_of}
+use Rattle.acts.specs.Pagers.{Acts, KeepsMaps, LeavesItsMaps, Plays, pins_of}
 use Rattle.acts.proofs.Growth.{acts_under}
 
--- one act more
+-- one act more, where what was promised for some openings is promised for fewer
 pub plays_next : (opened opened_then : Opening → Type 0) (old mid new : EngineState) (maps maps_then : Pin → Option PageMap)
     (seats seats_then : List Seat) (acts : List Act) (i : ℕ) (act : Act) (answer : Told) (answers : List Told)
     → i < length acts → act ≡ get_or acts i act → ((one : Opening) → opened one → opened_then one)
     → Acts (record { opened = opened_then; old = old; new = mid; map_before = maps; map_after = maps_then }) seats act answer seats_then
-    → KeepsMaps seats maps seats_then maps_then → Plays opened mid maps_then seats_then (drop (i + 1) acts) answers new
+    → KeepsMaps seats maps seats_then maps_then → LeavesItsMaps opened_then mid
+    → Plays opened mid maps_then seats_then (drop (i + 1) acts) answers new
     → Plays opened old maps seats (drop i acts) (answer ∷ answers) new
-plays_next opened opened_then old mid new maps maps_then seats seats_then acts i act answer answers within item onward acted keeps rest =
+plays_next opened opened_then old mid new maps maps_then seats seats_then acts i act answer answers within item onward acted keeps leaves rest =
     let next : suc i ≡ i + 1 = omega arith in
     let split : drop i acts ≡ act ∷ drop (i + 1) acts =
     drop-cons acts i act within ∙ (ap (λ (one : Act). one ∷ drop (suc i) acts) (sym item) ∙ ap (λ (k : ℕ). act ∷ drop k acts) next) in
@@ -29,6 +30,7 @@ plays_next opened opened_then old mid new maps maps_then seats seats_then acts i
       seats_then,
       acts_under opened opened_then old mid maps maps_then seats act answer seats_then onward acted,
       keeps,
+      λ opening is. leaves opening (onward opening is),
       rest,
     )
 

@@ -39,7 +39,7 @@ abbrev pub Leads : Between → List Seat → Told → Outcome → Type 0
 Leads engine after told outcome = (told ≡ outcome.told) × StandsAt engine.new engine.map_after after outcome.world
 
 -- a session stands as before where its pin's map is as before
-matches_keep : (map_before map_after : Pin → Option PageMap) (maps after : List PageMap) (state : State) (session : SessionState)
+pub matches_keep : (map_before map_after : Pin → Option PageMap) (maps after : List PageMap) (state : State) (session : SessionState)
     → Extends maps after → ((pin : Pin) → Contains (pins_in state) pin → map_after pin ≡ map_before pin)
     → Matches map_before maps state session → Matches map_after after state session
 matches_keep map_before map_after maps after seat.Out run.Out extends same matches = tt

@@ -3,6 +3,7 @@ use Rattle.std.proofs.Common.{◌≡◌, ◌∙◌, ℕ, ◌+◌, Bool, true, fa
 use Rattle.std.specs.Prelude.{Option, Some, None}
 use Rattle.disk_face.specs.Faults.{Rose}
 use Rattle.page_spec.specs.PageMap.{PageMap}
+use Rattle.crash_spec.specs.Opening.{Opening}
 use Rattle.engine_spec.specs.declared.pins.Pin.{Pin}
 use Rattle.engine_spec.specs.declared.commits.Commit.{Commit}
 use Rattle.engine_spec.specs.declared.commits.Mode.TheVariants.{Concurrent}
@@ -17,9 +18,10 @@ use Rattle.engine_spec.specs.History.{conflict}
 use Rattle.engine_spec.specs.State.{EngineState}
 use Rattle.engine_spec.specs.TwoLogs.{one_fewer}
 use Rattle.engine_spec.specs.Written.{Submitted, commit_of}
-use Rattle.engine_spec.specs.Events.{Ends, AcceptsCommit}
+use Rattle.engine_spec.specs.Events.{Ends, AcceptsCommit, IsCommitted}
 use Rattle.page_lines.specs.World.{World, SessionState, Outcome, changed_at, map_number, newest_map, step, begin_step, read_step, write_step, commit_step, rollback_step, commit, committed, moved, decided, change_of, handed_in, commit_in, pages_written}
 use Rattle.page_lines.specs.World as run
+use Rattle.page_lines.specs.PageLines.{AreImages}
 use Rattle.page_lines.proofs.Written.{writes_is}
 use Rattle.engine_spec.proofs.Conflicts.{conflict_none, conflict_is}
 use Rattle.acts.specs.declared.seats.Seat.{Seat}
@@ -33,7 +35,7 @@ use Rattle.acts.proofs.Telling.{extends_same, extends_push, tells_more, tells_re
 use Rattle.acts.proofs.Standing.{Stands, Leads, MindsNoLogs, turn, tells_same, rests, pin_stays, tells_ended}
 
 -- what a transaction hands in is what the world commits
-submits : (seats : List Seat) (world : World) (s : ℕ) (held : Transaction) (transaction : run.PageTransaction)
+pub submits : (seats : List Seat) (world : World) (s : ℕ) (held : Transaction) (transaction : run.PageTransaction)
     (map_before : Pin → Option PageMap) → IsTransaction held transaction → PinStands map_before world.maps held.pin
     → world.begun s ≡ begun_of seats s → submitted_of seats s held ≡ handed_in world s transaction
 submits seats world s held transaction map_before same pin begun =
@@ -74,6 +76,29 @@ read_only_is world s transaction wrote =
     (decided world s transaction (conflict Concurrent transaction.reads transaction.snap world.history))
     (moved world s run.Out (reply.Done (ReadOnly transaction.snap)))) wrote
 
+-- once a commit is laid, the engine tells of the maps of the world after it
+pub tells_committed : (opened : Opening → Type 0) (old done : EngineState) (seats : List Seat) (world : World) (s : ℕ) (held : Transaction)
+    (transaction : run.PageTransaction) (number : ℕ) → submitted_of seats s held ≡ handed_in world s transaction
+    → AreImages old.page_size held.changed → IsTransaction held transaction → TellsMaps old world.maps world.history
+    → IsCommitted opened old (submitted_of seats s held) number done
+    → TellsMaps done (committed world s transaction).world.maps (committed world s transaction).world.history
+tells_committed opened old done seats world s held transaction number asked_is images same tells accepts =
+    let asked : Submitted = submitted_of seats s held in
+    let pages_are : accepts.pages ≡ pages_written held.changed =
+    writes_is old.newest old.size asked.change accepts.pages refl refl accepts.wrote in
+    let told : TellsMaps done (world.maps ++ laid (newest_map world) asked.change ∷ []) (world.history ++ commit_of asked accepts.pages ∷ []) =
+    tells_more old done world.maps world.history asked.change (commit_of asked accepts.pages) refl refl images
+    (ap (λ (seen : EngineState). seen.history) accepts.after_is) (ap (λ (seen : EngineState). seen.newest) accepts.after_is)
+    (ap (λ (seen : EngineState). seen.size) accepts.after_is) (ap (λ (seen : EngineState). seen.page_size) accepts.after_is)
+    (ap (λ (seen : EngineState). seen.stopped) accepts.after_is) tells in
+    let same_commit : commit_of asked accepts.pages ≡ commit_in world s transaction =
+    ap (λ (pages : List ℕ). commit_of asked pages) (pages_are ∙ ap pages_written (sym same.changed))
+    ∙ ap (λ (one : Submitted). commit_of one (pages_written transaction.changed)) asked_is in
+    subst (λ (one : Commit). TellsMaps done (world.maps ++ laid (newest_map world) (change_of world transaction) ∷ [])
+    (world.history ++ one ∷ [])) same_commit
+    (subst (λ (one : Submitted). TellsMaps done (world.maps ++ laid (newest_map world) one.change ∷ [])
+    (world.history ++ commit_of asked accepts.pages ∷ [])) asked_is told)
+
 -- a session out of its transaction after COMMIT
 committed_acts : (engine : Between) (seats after : List Seat) (world : World) (s : ℕ) (held : Transaction)
     (transaction : run.PageTransaction) (receipt : Receipt) → Stands engine seats after world → seat_state seats s ≡ seat.Open held
@@ -91,8 +116,7 @@ committed_acts engine seats after world s held transaction (ReadOnly n) b is sam
     )
 committed_acts engine seats after world s held transaction (At number) b is same pin done accepts ends put =
     let tells = b.stands.tells in
-    let asked : Submitted = submitted_of seats s held in
-    let asked_is : asked ≡ handed_in world s transaction =
+    let asked_is : submitted_of seats s held ≡ handed_in world s transaction =
     submits seats world s held transaction engine.map_before same pin (b.stands.begun s) in
     let sound : IsSoundTransaction engine.old.page_size held =
     subst (IsSoundState engine.old.page_size) is (sound_at engine.old.page_size seats s b.sound) in
@@ -101,27 +125,14 @@ committed_acts engine seats after world s held transaction (At number) b is same
     ∙ ap (λ (n : ℕ). conflict Concurrent held.reads n world.history) same.snap
     ∙ ap (conflict Concurrent held.reads held.pin.n) (sym tells.history_is)
     ∙ conflict_none Concurrent held.reads held.pin.n engine.old.history accepts.clear.free in
-    let pages_are : accepts.pages ≡ pages_written held.changed =
-    writes_is engine.old.newest engine.old.size asked.change accepts.pages refl refl accepts.wrote in
-    let told : TellsMaps done (world.maps ++ laid (newest_map world) asked.change ∷ []) (world.history ++ commit_of asked accepts.pages ∷ []) =
-    tells_more engine.old done world.maps world.history asked.change (commit_of asked accepts.pages) refl refl sound.images
-    (ap (λ (seen : EngineState). seen.history) accepts.after_is) (ap (λ (seen : EngineState). seen.newest) accepts.after_is)
-    (ap (λ (seen : EngineState). seen.size) accepts.after_is) (ap (λ (seen : EngineState). seen.page_size) accepts.after_is)
-    (ap (λ (seen : EngineState). seen.stopped) accepts.after_is) tells in
-    let ended : TellsMaps engine.new (world.maps ++ laid (newest_map world) asked.change ∷ []) (world.history ++ commit_of asked accepts.pages ∷ []) =
-    tells_readers done engine.new _ _ one_fewer held.pin.lock ends told in
-    let same_commit : commit_of asked accepts.pages ≡ commit_in world s transaction =
-    ap (λ (pages : List ℕ). commit_of asked pages) (pages_are ∙ ap pages_written (sym same.changed))
-    ∙ ap (λ (one : Submitted). commit_of one (pages_written transaction.changed)) asked_is in
+    let told : TellsMaps done (committed world s transaction).world.maps (committed world s transaction).world.history =
+    tells_committed engine.opened engine.old done seats world s held transaction number asked_is sound.images same tells accepts in
     let number_is : number ≡ length world.history + 1 =
     accepts.number_is ∙ ap (λ (commits : List Commit). length commits + 1) tells.history_is in
     subst (Leads engine after (reply.Done (At number))) (sym (commit_is world s transaction (same.wrote ∙ accepts.clear.wrote) free)) (
       ap (λ (k : ℕ). reply.Done (At k)) number_is,
       turn engine seats after world (committed world s transaction).world s seat.Out run.Out b put
-          (subst (λ (one : Commit). TellsMaps engine.new (world.maps ++ laid (newest_map world) (change_of world transaction) ∷ [])
-          (world.history ++ one ∷ [])) same_commit
-          (subst (λ (one : Submitted). TellsMaps engine.new (world.maps ++ laid (newest_map world) one.change ∷ [])
-          (world.history ++ commit_of asked accepts.pages ∷ [])) asked_is ended))
+          (tells_readers done engine.new _ _ one_fewer held.pin.lock ends told)
           (extends_push world.maps (laid (newest_map world) (change_of world transaction))) tt (λ other. refl) (λ other. refl),
     )
 

@@ -26,7 +26,7 @@ use Rattle.acts.proofs.Telling.{extends_same, tells_readers}
 use Rattle.acts.proofs.Standing.{Stands, Leads, move, turn, tells_same, rests, pin_stays, tells_quiet, never_fails, tells_ended}
 
 -- counting a reader leaves who may commit
-readers_alone : (old : EngineState) (change : ℕ → ℕ) (lock : Lock) → (with_readers change lock old).alone ≡ old.alone
+pub readers_alone : (old : EngineState) (change : ℕ → ℕ) (lock : Lock) → (with_readers change lock old).alone ≡ old.alone
 readers_alone old change lock = by_test (old.always_begins && is_some old.logs)
   where
     by_test : (test : Bool) → (cond test (record old { readers = change_readers change old.readers lock }) old).alone ≡ old.alone

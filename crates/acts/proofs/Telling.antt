@@ -150,16 +150,21 @@ few_images s images are =
         let at : q ≡ (get_or images there.0 d).page = sym there.2 ∙ is in
         omega arith
 
+-- a change of page lines doesn't make the database too large
+pub pages_fit : (seen : EngineState) (maps : List PageMap) (history : List Commit) (change : Change) → TellsMaps seen maps history
+    → change.fresh ≡ [] → database_limit < pages_after seen change * seen.page_size → ⊥
+pages_fit seen maps history change tells fresh pages =
+    let count : pages_after seen change ≡ 16 = omega (arith, tells.size, ap length fresh) in
+    let many : database_limit < 16 * seen.page_size = subst (λ (n : ℕ). database_limit < n * seen.page_size) count pages in
+    let most : seen.page_size ≤ 65536 =
+    subst (λ (s : ℕ). s ≤ 65536) (sym tells.page_size) (most_size (page_size_of (get_or maps (length history) [])) tells.store.size) in
+    omega arith
+
 -- where there are no logs, a change of page lines passes no limit
 pub not_over : (seen : EngineState) (maps : List PageMap) (history : List Commit) (change : Change) → TellsMaps seen maps history
     → seen.logs ≡ None → change.fresh ≡ [] → change.freed ≡ [] → AreImages seen.page_size change.changed → IsOver seen change → ⊥
 not_over seen maps history change tells no_logs fresh freed images over = elim over [
-  | inl pages ↦
-      (let count : pages_after seen change ≡ 16 = omega (arith, tells.size, ap length fresh) in
-      let many : database_limit < 16 * seen.page_size = subst (λ (n : ℕ). database_limit < n * seen.page_size) count pages in
-      let most : seen.page_size ≤ 65536 =
-      subst (λ (s : ℕ). s ≤ 65536) (sym tells.page_size) (most_size (page_size_of (get_or maps (length history) [])) tells.store.size) in
-      omega arith)
+  | inl pages ↦ pages_fit seen maps history change tells fresh pages
   | inr frames ↦
       (let none : frames_after seen change ≡ 0 + length change.changed + length change.fresh + length change.freed + 2 = rw no_logs refl in
       omega (arith, none, ap length fresh, ap length freed, few_images seen.page_size change.changed images))

@@ -1,4 +1,5 @@
 pub mod Pagers
 pub mod Standing
+pub mod Logged
 pub mod Turns
 pub mod Playing

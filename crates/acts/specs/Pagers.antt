@@ -19,6 +19,7 @@ use Rattle.engine_spec.specs.Change.{image_of}
 use Rattle.disk_face.specs.Faults.{one_more}
 use Rattle.engine_spec.specs.TwoLogs.{told_logs}
 use Rattle.crash_spec.specs.Opening.{Opening}
+use Rattle.engine_spec.specs.Leaves.{RecoversNow, may_recover}
 use Rattle.engine_spec.specs.State.{EngineState, Later, During}
 use Rattle.engine_spec.specs.Written.{Submitted}
 use Rattle.engine_spec.specs.Events.{Begins, Ends, FailsAlone, FailsInStep, AcceptsCommit, RefusesCommit, Checkpoints}
@@ -265,14 +266,18 @@ abbrev pub KeepsMaps : List Seat → (Pin → Option PageMap) → List Seat → 
 KeepsMaps before maps after maps_then =
     (pin : Pin) → Contains (pins_of before) pin → Contains (pins_of after) pin → maps_then pin ≡ maps pin
 
+-- a crash leaves now what the engine says
+abbrev pub LeavesItsMaps : (Opening → Type 0) → EngineState → Type 0
+LeavesItsMaps opened seen = (opening : Opening) → opened opening → RecoversNow opening (may_recover seen) seen.disk
+
 -- A run of page lines, from these seats on, where each pin that holds has such a map: the acts are answered one after another, and
--- then the pins of what is still open are given back.
+-- then the pins of what is still open are given back. After each act a crash leaves what the engine says.
 abbrev pub Plays : (Opening → Type 0) → EngineState → (Pin → Option PageMap) → List Seat → List Act → List Told → EngineState → Type 0
 Plays opened old maps seats [] [] new = EndsAll (pins_of seats) old new
 Plays opened old maps seats (act ∷ acts) (answer ∷ answers) new =
     (mid : EngineState) × (maps_then : Pin → Option PageMap) × (seats_then : List Seat)
     × Acts (record { opened = opened; old = old; new = mid; map_before = maps; map_after = maps_then }) seats act answer seats_then
-    × KeepsMaps seats maps seats_then maps_then × Plays opened mid maps_then seats_then acts answers new
+    × KeepsMaps seats maps seats_then maps_then × LeavesItsMaps opened mid × Plays opened mid maps_then seats_then acts answers new
 Plays opened old maps seats [] (answer ∷ answers) new = ⊥
 Plays opened old maps seats (act ∷ acts) [] new = ⊥
 

@@ -8,6 +8,8 @@ ghost use Rattle.page_face.specs.Calls.{KeepsOpenings, KeepsRuns};
 ghost use Rattle.page_lines.specs.Range.{AreInRange};
 ghost use Rattle.page_lines.specs.World.{World, answers_to};
 ghost use Rattle.acts.specs.Pagers.{pins_of, Plays, EndsAll, Grew};
+ghost use Rattle.page_lines.specs.Logged.{LoggedWorld, Lines};
+ghost use Rattle.acts.specs.Logged.{StandsLogged, past_of};
 ghost use Rattle.acts.specs.Playing.{RestsAt, IsWithoutLogs, AreSessions, HaveNoLimit};
 
 use crate::pagers::Pagers;
@@ -40,6 +42,12 @@ pub fn play<E: Engine<Raw>>(
         → (Rose (E.state engine.old).faults (E.state engine.new).faults → ⊥)
         → IfOk result (λ told. IsWithoutLogs (E.state engine.old) ⊎ (AreSessions acts.now × HaveNoLimit told.items)
         → told.items ≡ answers_to world acts.now) }
+
+    // Where nobody else commits and the engine keeps logs, the run is one over whole page maps and two logs, from the world at which
+    // the engine stood on: each answer, each failure of the disk and what it left, and at each moment what a crash leaves.
+    ensures logged { (E.state engine.old).alone ≡ true → (logged : LoggedWorld) → StandsLogged (E.state engine.old) (E.map_at engine.old) [] logged
+        → IfOk result (λ told. (after : LoggedWorld) × Lines (E.opened engine.old) logged (past_of (E.state engine.old)) acts.now told.items
+        after (past_of (E.state engine.new))) }
 
     // With or without memory.
     ensures grew { Grew (E.state engine.old) (E.state engine.new) }

@@ -9,14 +9,15 @@ use acts::{Act, Told, play};
 use engine_spec::{Ckpt, Logs, Receipt};
 use page_face::Engine;
 use page_lines::Raw;
-use page_runs::{InMemory, engine_of_zeros};
+use page_runs::{Sessions, engine_of_zeros};
 use std::alloc::{AllocError, Global};
 use std::process::Abort;
 use std::test::Fail;
 
 #[test]
 fn a_store_in_memory_answers_each_act(rt: HostRuntime) -> Result<(), Fail> {
-    let mut memory = InMemory::new(rt.alloc())?;
+    let engine = engine_of_zeros(rt.alloc())?;
+    let mut memory = Sessions::new(rt.alloc(), engine);
     assert_eq!(rt; memory.act(Act::Begin { session: 1 }), Ok(Told::Ok));
     assert_eq!(rt; memory.act(Act::Begin { session: 2 }), Ok(Told::Ok));
     assert_eq!(rt;

@@ -5,6 +5,13 @@ pub mod Alone
 pub mod OneMore
 pub mod Ordinals
 pub mod SerialLaw
+pub mod WorldRuns
 pub mod SerialRuns
 pub mod GoingOn
 pub mod AlikeLaw
+pub mod Rises
+pub mod LoggedRuns
+pub mod LoggedAnswers
+pub mod LoggedMoments
+pub mod LoggedLeaves
+mod WorkedLogs

@@ -265,7 +265,7 @@ moved_keeps s first world past session state asked answer none is_of here alone 
     }
 
 -- an exchange that bears on nothing
-stays : (s : ℕ) (first : PageMap) (world : World) (past : List Exchange) (one : Exchange) → is_commit one.told ≡ false
+pub stays : (s : ℕ) (first : PageMap) (world : World) (past : List Exchange) (one : Exchange) → is_commit one.told ≡ false
     → ((k : ℕ) → is_begin k one.act one.told ≡ false) → ((k : ℕ) → accepted k one.act one.told ≡ None)
     → IsWorld s first world past → IsWorld s first world (one ∷ past)
 stays s first world past one none no_begin no_statement whole = record {

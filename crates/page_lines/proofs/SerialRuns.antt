@@ -1,5 +1,6 @@
--- Each run of page lines over a page store is serial, and the history that it leaves is legal.
-use Rattle.std.proofs.Common.{◌≡◌, ℕ, ◌+◌, ◌-◌, ◌<◌, ◌≤◌, Bool, true, false, cond, List, [], ◌∷◌, ◌++◌, length, Option, Some, None, zero, suc, refl, sym, subst, ap, ◌∙◌, arith, length-append, append_assoc}
+-- Each run of page lines over a page store is serial, and the history that it leaves is legal: of each run by which a world goes on, and
+-- so of the one over whole maps.
+use Rattle.std.proofs.Common.{◌≡◌, ℕ, ◌+◌, ◌-◌, ◌<◌, ◌≤◌, Bool, true, false, cond, List, [], ◌∷◌, ◌++◌, length, Option, Some, None, zero, suc, refl, sym, subst, ap, ◌∙◌, inl, inr, arith, length-append, append_assoc}
 use Rattle.std.specs.Prelude.{slice_get, reverse, take}
 use Rattle.std.specs.List.{slice_index_or}
 use Rattle.std.proofs.lemmas.List.{get_or_append_left, get_or_push, append-nil, reverse-append}
@@ -17,94 +18,14 @@ use Rattle.page_lines.specs.declared.lines.Act.TheVariants as act
 use Rattle.page_lines.specs.declared.lines.Told.{Told}
 use Rattle.page_lines.specs.declared.lines.Told.TheVariants as told
 use Rattle.page_lines.specs.PageLines.{page_after}
-use Rattle.page_lines.specs.World.{World, SessionState, Out, Open, Refused, PageTransaction, newest_map, map_number, change_of, moved, decided, begin_step, read_step, write_step, commit_step, rollback_step, step, world_after, world_over, zeros, start}
+use Rattle.page_lines.specs.World.{World, Outcome, SessionState, Out, Open, Refused, PageTransaction, newest_map, map_number, change_of, moved, decided, commit_step, step, answers_to, world_after, world_over, zeros, start}
 use Rattle.page_lines.specs.Range.{IsInRange, AreInRange}
-use Rattle.page_lines.specs.Exchanges.{Exchange, AcceptedStatement, exchanges, past_of, is_commit, commits_in, snapshot_of, transaction_of}
+use Rattle.page_lines.specs.Exchanges.{Exchange, AcceptedStatement, exchanges, exchanged, past_of, is_commit, commits_in, snapshot_of, transaction_of}
 use Rattle.page_lines.specs.Serial.{IsToldAlone, IsSerialCommit, IsSerial, statements_in}
 use Rattle.page_lines.specs.Legal.{IsLegalFrom}
 use Rattle.page_lines.proofs.Alone.{IsStore}
-use Rattle.page_lines.proofs.SerialLaw.{IsHeld, IsWorld, agree_since, leaves_laid, newest_store, step_keeps, world_over-is, world_is_legal, zeros_are_store}
-
--- Maps are added at the end, one for each commit.
-pub record Grows (old : List PageMap) (answer : Told) (new : List PageMap) : Type 0 where
-  pub more : List PageMap
-  pub grown : new ≡ old ++ more
-  pub count : length more ≡ cond (is_commit answer) 1 0
-
-rests : (maps : List PageMap) (answer : Told) → is_commit answer ≡ false → Grows maps answer maps
-rests maps answer none = record { more = []; grown = sym (append-nil maps); count = sym (ap (λ (test : Bool). cond test 1 0) none) }
-
-decided_grows : (world : World) (session : ℕ) (transaction : PageTransaction) (found : Option (ℕ × ℕ))
-    → Grows world.maps (decided world session transaction found).told (decided world session transaction found).world.maps
-decided_grows world session transaction None =
-    record { more = laid (newest_map world) (change_of world transaction) ∷ []; grown = refl; count = refl }
-decided_grows world session transaction (Some found) = rests world.maps _ refl
-
-commit_grows : (world : World) (session : ℕ) (state : SessionState)
-    → Grows world.maps (commit_step world session state).told (commit_step world session state).world.maps
-commit_grows world session Out = rests world.maps _ refl
-commit_grows world session (Open transaction) = by_wrote transaction.wrote
-  where
-    by_wrote : (wrote : Bool)
-        → Grows world.maps
-        (cond wrote (decided world session transaction (conflict Concurrent transaction.reads transaction.snap world.history))
-        (moved world session Out (told.Done (ReadOnly transaction.snap)))).told
-        (cond wrote (decided world session transaction (conflict Concurrent transaction.reads transaction.snap world.history))
-        (moved world session Out (told.Done (ReadOnly transaction.snap)))).world.maps
-    by_wrote true = decided_grows world session transaction (conflict Concurrent transaction.reads transaction.snap world.history)
-    by_wrote false = rests world.maps _ refl
-commit_grows world session (Refused transaction) = rests world.maps _ refl
-
-begin_grows : (world : World) (session : ℕ) (state : SessionState)
-    → Grows world.maps (begin_step world session state).told (begin_step world session state).world.maps
-begin_grows world session Out = rests world.maps _ refl
-begin_grows world session (Open transaction) = rests world.maps _ refl
-begin_grows world session (Refused transaction) = rests world.maps _ refl
-
-read_grows : (world : World) (session page : ℕ) (state : SessionState)
-    → Grows world.maps (read_step world session page state).told (read_step world session page state).world.maps
-read_grows world session page Out = rests world.maps _ refl
-read_grows world session page (Open transaction) = rests world.maps _ refl
-read_grows world session page (Refused transaction) = rests world.maps _ refl
-
-write_grows : (world : World) (session page byte : ℕ) (state : SessionState)
-    → Grows world.maps (write_step world session page byte state).told (write_step world session page byte state).world.maps
-write_grows world session page byte Out = rests world.maps _ refl
-write_grows world session page byte (Open transaction) = rests world.maps _ refl
-write_grows world session page byte (Refused transaction) = rests world.maps _ refl
-
-rollback_grows : (world : World) (session : ℕ) (state : SessionState)
-    → Grows world.maps (rollback_step world session state).told (rollback_step world session state).world.maps
-rollback_grows world session Out = rests world.maps _ refl
-rollback_grows world session (Open transaction) = rests world.maps _ refl
-rollback_grows world session (Refused transaction) = rests world.maps _ refl
-
-step_grows : (world : World) (asked : Act) → Grows world.maps (step world asked).told (step world asked).world.maps
-step_grows world (act.Begin session) = begin_grows world session (world.sessions session)
-step_grows world (act.Read session page) = read_grows world session page (world.sessions session)
-step_grows world (act.Write session page byte) = write_grows world session page byte (world.sessions session)
-step_grows world (act.Commit session) = commit_grows world session (world.sessions session)
-step_grows world (act.Rollback session) = rollback_grows world session (world.sessions session)
-step_grows world act.Copy = rests world.maps _ refl
-step_grows world act.Step = rests world.maps _ refl
-step_grows world act.Logs = rests world.maps _ refl
-
--- the maps of a run, from a world on
-run_grows : (world : World) (acts : List Act) → (more : List PageMap) × ((world_after world acts).maps ≡ world.maps ++ more)
-    × (length more ≡ commits_in (exchanges world acts))
-run_grows world [] = ([], sym (append-nil world.maps), refl)
-run_grows world (asked ∷ acts) =
-    let one = step_grows world asked in
-    let others = run_grows (step world asked).world acts in (
-      one.more ++ others.0,
-      others.1 ∙ (ap (λ (maps : List PageMap). maps ++ others.0) one.grown ∙ append_assoc world.maps one.more others.0),
-      length-append one.more others.0 ∙ count (is_commit (step world asked).told) (length one.more) (length others.0)
-          (commits_in (exchanges (step world asked).world acts)) one.count others.2,
-    )
-  where
-    count : (test : Bool) (some rest commits : ℕ) → some ≡ cond test 1 0 → rest ≡ commits → some + rest ≡ cond test (commits + 1) commits
-    count true some rest commits is same = omega (arith, is, same)
-    count false some rest commits is same = omega (arith, is, same)
+use Rattle.page_lines.proofs.SerialLaw.{IsHeld, IsWorld, agree_since, leaves_laid, newest_store, world_over-is, world_is_legal, zeros_are_store}
+use Rattle.page_lines.proofs.WorldRuns.{IsAside, Goes, WorldRuns, steps_run, exchanged_are, goes_keeps, run_keeps, goes_grows, run_grows}
 
 -- an answer that is no commit isn't that of one
 no_commit : (answer : Told) (number : ℕ) → is_commit answer ≡ false → answer ≡ told.Done (At number) → ⊥
@@ -238,43 +159,50 @@ snapshot_stays s first world past more all session whole grown =
     (whole.alone session).1
 
 -- a COMMIT here, among the maps to come
-commit_here : (s : ℕ) (first : PageMap) (world : World) (past : List Exchange) (asked : Act) (more all : List PageMap) (session number : ℕ)
-    → IsWorld s first world past → all ≡ (step world asked).world.maps ++ more → asked ≡ act.Commit session
-    → (step world asked).told ≡ told.Done (At number) → (number ≡ commits_in past + 1) × IsSerialCommit all number (transaction_of session past)
-commit_here s first world past asked more all session number whole grown is is_told =
-    let here : (number ≡ commits_in past + 1) × IsSerialCommit (step world asked).world.maps number (transaction_of session past) =
-    subst (λ (it : Act). (step world it).told ≡ told.Done (At number)
-    → (number ≡ commits_in past + 1) × IsSerialCommit (step world it).world.maps number (transaction_of session past)) (sym is)
+commit_here : (s : ℕ) (first : PageMap) (world mid : World) (past : List Exchange) (asked : Act) (answer : Told) (more all : List PageMap)
+    (session number : ℕ) → IsWorld s first world past → Goes world asked answer mid → all ≡ mid.maps ++ more → asked ≡ act.Commit session
+    → answer ≡ told.Done (At number) → (number ≡ commits_in past + 1) × IsSerialCommit all number (transaction_of session past)
+commit_here s first world mid past asked answer more all session number whole (inr aside) grown is is_told =
+    absurd (subst IsAside is_told aside.0)
+commit_here s first world mid past asked answer more all session number whole (inl goes) grown is is_told =
+    let same : record { told = answer; world = mid } ≡ step world (act.Commit session) = subst (λ (it : Act).
+    record { told = answer; world = mid } ≡ step world it) is goes in
+    let here : (number ≡ commits_in past + 1) × IsSerialCommit mid.maps number (transaction_of session past) =
+    subst (λ (outcome : Outcome). outcome.told ≡ told.Done (At number)
+    → (number ≡ commits_in past + 1) × IsSerialCommit outcome.world.maps number (transaction_of session past)) (sym same)
     (commit_serial s first world past session number (world.sessions session) (whole.held session) whole) is_told in
-    let one = step_grows world asked in
-    let added : length one.more ≡ 1 = one.count ∙ ap (λ (answer : Told). cond (is_commit answer) 1 0) is_told in
-    let within : number < length (step world asked).world.maps =
+    let one = goes_grows world mid asked answer (inl goes) in
+    let added : length one.more ≡ 1 = one.count ∙ ap (λ (it : Told). cond (is_commit it) 1 0) is_told in
+    let within : number < length mid.maps =
     omega (arith, here.0, whole.commits_count, whole.maps_count, ap length one.grown, length-append world.maps one.more, added) in
-    (here.0, serial_more (step world asked).world.maps more all number (transaction_of session past) grown within here.1)
+    (here.0, serial_more mid.maps more all number (transaction_of session past) grown within here.1)
 
-read_here : (s : ℕ) (first : PageMap) (world : World) (past : List Exchange) (asked : Act) (session number : ℕ) → IsWorld s first world past
-    → asked ≡ act.Commit session → (step world asked).told ≡ told.Done (ReadOnly number) → number ≡ snapshot_of session past
-read_here s first world past asked session number whole is is_told =
-    subst (λ (it : Act). (step world it).told ≡ told.Done (ReadOnly number) → number ≡ snapshot_of session past) (sym is)
-    (commit_reads s world (snapshot_of session past) (transaction_of session past) session number (world.sessions session)
-    (whole.held session)) is_told
+read_here : (s : ℕ) (first : PageMap) (world mid : World) (past : List Exchange) (asked : Act) (answer : Told) (session number : ℕ)
+    → IsWorld s first world past → Goes world asked answer mid → asked ≡ act.Commit session → answer ≡ told.Done (ReadOnly number)
+    → number ≡ snapshot_of session past
+read_here s first world mid past asked answer session number whole (inr aside) is is_told = absurd (subst IsAside is_told aside.0)
+read_here s first world mid past asked answer session number whole (inl goes) is is_told =
+    let same : record { told = answer; world = mid } ≡ step world (act.Commit session) = subst (λ (it : Act).
+    record { told = answer; world = mid } ≡ step world it) is goes in
+    commit_reads s world (snapshot_of session past) (transaction_of session past) session number (world.sessions session)
+    (whole.held session) (sym (ap (λ (outcome : Outcome). outcome.told) same) ∙ is_told)
 
--- a run with one act more at its front
-serial_first : (s : ℕ) (first : PageMap) (world : World) (past : List Exchange) (asked : Act) (acts : List Act) → IsWorld s first world past
-    → IsSerialOn (world_after (step world asked).world acts).maps (record { act = asked; told = (step world asked).told } ∷ past)
-    (exchanges (step world asked).world acts)
-    → IsSerialOn (world_after world (asked ∷ acts)).maps past (exchanges world (asked ∷ acts))
-serial_first s first world past asked acts whole onward =
+-- a run with one line more at its front
+serial_first : (s : ℕ) (first : PageMap) (world mid after : World) (past : List Exchange) (asked : Act) (answer : Told) (acts : List Act)
+    (answers : List Told) → IsWorld s first world past → Goes world asked answer mid → WorldRuns mid acts answers after
+    → IsSerialOn after.maps (record { act = asked; told = answer } ∷ past) (exchanged acts answers)
+    → IsSerialOn after.maps past (exchanged (asked ∷ acts) (answer ∷ answers))
+serial_first s first world mid after past asked answer acts answers whole goes runs onward =
     record { commits = commits; snapshots = snapshots; read_only = read_only }
   where
     one : Exchange
-    one = record { act = asked; told = (step world asked).told }
+    one = record { act = asked; told = answer }
 
     rest : List Exchange
-    rest = exchanges (step world asked).world acts
+    rest = exchanged acts answers
 
     maps : List PageMap
-    maps = (world_after (step world asked).world acts).maps
+    maps = after.maps
 
     commits : (moment session number : ℕ)
         → slice_get (one ∷ rest) moment ≡ Some (record { act = act.Commit session; told = told.Done (At number) })
@@ -282,8 +210,8 @@ serial_first s first world past asked acts whole onward =
         × IsSerialCommit maps number (transaction_of session (reverse (take moment (one ∷ rest)) ++ past))
     commits zero session number is =
         let same = same_Some one (record { act = act.Commit session; told = told.Done (At number) }) is in
-        let grown = run_grows (step world asked).world acts in
-        commit_here s first world past asked grown.0 maps session number whole grown.1 (ap (λ (it : Exchange). it.act) same)
+        let grown = run_grows mid after acts answers runs in
+        commit_here s first world mid past asked answer grown.0 maps session number whole goes grown.1 (ap (λ (it : Exchange). it.act) same)
         (ap (λ (it : Exchange). it.told) same)
     commits (suc moment) session number is =
         subst (λ (all : List Exchange). (number ≡ commits_in all + 1) × IsSerialCommit maps number (transaction_of session all))
@@ -293,7 +221,7 @@ serial_first s first world past asked acts whole onward =
         → IsToldAlone (slice_index_or maps (snapshot_of session (reverse (take moment (one ∷ rest)) ++ past)) [])
         (transaction_of session (reverse (take moment (one ∷ rest)) ++ past))
     snapshots zero session =
-        let grown = run_grows world (asked ∷ acts) in
+        let grown = run_grows world after (asked ∷ acts) (answer ∷ answers) (mid, goes, runs) in
         snapshot_stays s first world past grown.0 maps session whole grown.1
     snapshots (suc moment) session =
         subst (λ (all : List Exchange). IsToldAlone (slice_index_or maps (snapshot_of session all) []) (transaction_of session all))
@@ -304,15 +232,15 @@ serial_first s first world past asked acts whole onward =
         → number ≡ snapshot_of session (reverse (take moment (one ∷ rest)) ++ past)
     read_only zero session number is =
         let same = same_Some one (record { act = act.Commit session; told = told.Done (ReadOnly number) }) is in
-        read_here s first world past asked session number whole (ap (λ (it : Exchange). it.act) same) (ap (λ (it : Exchange). it.told) same)
+        read_here s first world mid past asked answer session number whole goes (ap (λ (it : Exchange). it.act) same)
+        (ap (λ (it : Exchange). it.told) same)
     read_only (suc moment) session number is =
         subst (λ (all : List Exchange). number ≡ snapshot_of session all) (sym (past_more one rest past moment))
         (onward.read_only moment session number is)
 
--- whatever acts are run on from a world
-serial_on : (s : ℕ) (first : PageMap) (world : World) (past : List Exchange) (acts : List Act) → AreInRange acts → IsWorld s first world past
-    → IsSerialOn (world_after world acts).maps past (exchanges world acts)
-serial_on s first world past [] range whole = record {
+-- no lines from a world on
+serial_none : (s : ℕ) (first : PageMap) (world : World) (past : List Exchange) → IsWorld s first world past → IsSerialOn world.maps past []
+serial_none s first world past whole = record {
   commits = λ moment session number is. absurd (none-some _ is);
   snapshots = by_moment;
   read_only = λ moment session number is. absurd (none-some _ is);
@@ -323,42 +251,62 @@ serial_on s first world past [] range whole = record {
         (transaction_of session (reverse (take moment []) ++ past))
     by_moment zero session = (whole.alone session).1
     by_moment (suc moment) session = (whole.alone session).1
-serial_on s first world past (asked ∷ acts) range whole =
-    serial_first s first world past asked acts whole
-    (serial_on s first (step world asked).world (record { act = asked; told = (step world asked).told } ∷ past) acts
-    (All-tail IsInRange asked acts range) (step_keeps s first world past asked (All-head IsInRange asked acts range) whole))
 
--- whatever acts are run, the world after them keeps what it has to
-pub after_keeps : (s : ℕ) (first : PageMap) (world : World) (past : List Exchange) (acts : List Act) → AreInRange acts
-    → IsWorld s first world past → (later : List Exchange) × IsWorld s first (world_after world acts) later
-after_keeps s first world past [] range whole = (past, whole)
-after_keeps s first world past (asked ∷ acts) range whole =
-    after_keeps s first (step world asked).world (record { act = asked; told = (step world asked).told } ∷ past) acts
-    (All-tail IsInRange asked acts range) (step_keeps s first world past asked (All-head IsInRange asked acts range) whole)
+-- whatever lines are run on from a world
+serial_on : (s : ℕ) (first : PageMap) (world after : World) (past : List Exchange) (acts : List Act) (answers : List Told) → AreInRange acts
+    → IsWorld s first world past → WorldRuns world acts answers after → IsSerialOn after.maps past (exchanged acts answers)
+serial_on s first world after past [] [] range whole same =
+    subst (λ (now : World). IsSerialOn now.maps past []) (sym same) (serial_none s first world past whole)
+serial_on s first world after past (asked ∷ acts) (answer ∷ answers) range whole (mid, goes, rest) =
+    serial_first s first world mid after past asked answer acts answers whole goes rest
+    (serial_on s first mid after (record { act = asked; told = answer } ∷ past) acts answers (All-tail IsInRange asked acts range)
+    (goes_keeps s first world mid past asked answer (All-head IsInRange asked acts range) whole goes) rest)
+serial_on s first world after past [] (answer ∷ answers) range whole never = absurd never
+serial_on s first world after past (asked ∷ acts) [] range whole never = absurd never
 
--- whatever page lines are run over a page store, their run is serial from there
-pub serial_over : (s : ℕ) (first : PageMap) → IsStore s first → (acts : List Act) → AreInRange acts
-    → IsSerial first (exchanges (world_over first) acts)
-serial_over s first sound acts range =
-    let whole = world_over-is s first sound in
-    let run = exchanges (world_over first) acts in
-    let on = serial_on s first (world_over first) [] acts range whole in
-    let grown = run_grows (world_over first) acts in
+-- whatever lines are run over a page store, their run is serial from there
+pub run_is_serial : (s : ℕ) (first : PageMap) → IsStore s first → (after : World) (acts : List Act) (answers : List Told) → AreInRange acts
+    → WorldRuns (world_over first) acts answers after → IsSerial first (exchanged acts answers)
+run_is_serial s first sound after acts answers range runs =
+    let run = exchanged acts answers in
+    let on = serial_on s first (world_over first) after [] acts answers range (world_over-is s first sound) runs in
+    let grown = run_grows (world_over first) after acts answers runs in
     let bare : (moment : ℕ) → reverse (take moment run) ++ [] ≡ past_of run moment = λ moment. append-nil (past_of run moment) in
     record {
-      maps = (world_after (world_over first) acts).maps;
+      maps = after.maps;
       begins = ap (λ (maps : List PageMap). slice_get maps 0) grown.1;
       count = ap length grown.1 ∙ omega (arith, grown.2, length-append (first ∷ []) grown.0);
       commits = λ moment session number is.
           subst (λ (past : List Exchange). (number ≡ commits_in past + 1)
-          × IsSerialCommit (world_after (world_over first) acts).maps number (transaction_of session past)) (bare moment)
+          × IsSerialCommit after.maps number (transaction_of session past)) (bare moment)
           (on.commits moment session number is);
       snapshots = λ moment session.
-          subst (λ (past : List Exchange). IsToldAlone (slice_index_or (world_after (world_over first) acts).maps (snapshot_of session past) [])
+          subst (λ (past : List Exchange). IsToldAlone (slice_index_or after.maps (snapshot_of session past) [])
           (transaction_of session past)) (bare moment) (on.snapshots moment session);
       read_only = λ moment session number is.
           subst (λ (past : List Exchange). number ≡ snapshot_of session past) (bare moment) (on.read_only moment session number is);
     }
+
+-- and the history that they leave is legal
+pub run_is_legal : (s : ℕ) (first : PageMap) → IsStore s first → (after : World) (acts : List Act) (answers : List Told) → AreInRange acts
+    → WorldRuns (world_over first) acts answers after → IsLegalFrom first after
+run_is_legal s first sound after acts answers range runs =
+    let later = run_keeps s first (world_over first) after [] acts answers range (world_over-is s first sound) runs in
+    world_is_legal s first after later.0 later.1
+
+-- whatever acts are run over whole maps, the world after them keeps what it has to
+pub after_keeps : (s : ℕ) (first : PageMap) (world : World) (past : List Exchange) (acts : List Act) → AreInRange acts
+    → IsWorld s first world past → (later : List Exchange) × IsWorld s first (world_after world acts) later
+after_keeps s first world past acts range whole =
+    run_keeps s first world (world_after world acts) past acts (answers_to world acts) range whole (steps_run world acts)
+
+-- their run over a page store is serial from there
+pub serial_over : (s : ℕ) (first : PageMap) → IsStore s first → (acts : List Act) → AreInRange acts
+    → IsSerial first (exchanges (world_over first) acts)
+serial_over s first sound acts range =
+    let world = world_over first in
+    subst (IsSerial first) (exchanged_are world acts)
+    (run_is_serial s first sound (world_after world acts) acts (answers_to world acts) range (steps_run world acts))
 
 -- and over the map of a page store in memory
 pub serial_from_start : (acts : List Act) → AreInRange acts → IsSerial zeros (exchanges start acts)
@@ -367,5 +315,4 @@ serial_from_start acts range = serial_over 4096 zeros zeros_are_store acts range
 -- the history that it leaves is legal
 pub legal_from_start : (acts : List Act) → AreInRange acts → IsLegalFrom zeros (world_after start acts)
 legal_from_start acts range =
-    let later = after_keeps 4096 zeros start [] acts range (world_over-is 4096 zeros zeros_are_store) in
-    world_is_legal 4096 zeros (world_after start acts) later.0 later.1
+    run_is_legal 4096 zeros zeros_are_store (world_after start acts) acts (answers_to start acts) range (steps_run start acts)

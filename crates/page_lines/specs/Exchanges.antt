@@ -19,6 +19,12 @@ abbrev pub exchanges : World → List Act → List Exchange
 exchanges world [] = []
 exchanges world (asked ∷ acts) = record { act = asked; told = (step world asked).told } ∷ exchanges (step world asked).world acts
 
+-- acts, each with what it was answered
+abbrev pub exchanged : List Act → List Told → List Exchange
+exchanged [] answers = []
+exchanged (asked ∷ acts) [] = []
+exchanged (asked ∷ acts) (answer ∷ answers) = record { act = asked; told = answer } ∷ exchanged acts answers
+
 -- the past of a run at the moment before the exchange with this index, newest first
 abbrev pub past_of : List Exchange → ℕ → List Exchange
 past_of run moment = reverse (take moment run)

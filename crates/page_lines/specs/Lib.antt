@@ -2,6 +2,7 @@ pub mod PageLines
 pub mod PageLineLaws
 pub mod Range
 pub mod World
+pub mod Logged
 pub mod Alike
 pub mod Reply
 pub mod Exchanges

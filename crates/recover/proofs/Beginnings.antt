@@ -1,11 +1,10 @@
 -- Log 1 gets the header behind which the first commit goes; and what stands in Main after it.
-use Rattle.std.proofs.Common.{◌≡◌, ℕ, ◌+◌, ◌*◌, ◌%◌, ◌^◌, ◌≤◌, ◌<◌, Bool, true, false, inl, inr, List, [], length, Option, Some, None, refl, sym, ◌∙◌, ap, subst, arith}
+use Rattle.std.proofs.Common.{◌≡◌, ℕ, ◌+◌, ◌%◌, ◌^◌, ◌≤◌, ◌<◌, Bool, true, false, inl, inr, List, [], length, Option, Some, None, refl, sym, ◌∙◌, ap, subst, arith}
 use Rattle.std.specs.Prelude.{IfSome}
 use Rattle.disk_face.specs.declared.disk.File.TheVariants.{Log1, Log2}
 use Rattle.disk_face.specs.declared.step.Step.TheVariants.{Wrote, Synced}
 use Rattle.disk_face.specs.Files.{Files}
 use Rattle.disk_face.specs.Steps.{History, reads, after}
-use Rattle.disk_face.proofs.Contents.{length-overwritten}
 use Rattle.page_spec.specs.PageMap.{PageMap}
 use Rattle.log_spec.specs.LogHeader.{LogFields, log_fields}
 use Rattle.log_spec.specs.Accept.{Frame}
@@ -16,7 +15,6 @@ use Rattle.crash_spec.proofs.Rebased.{rebased_reads}
 use Rattle.wal_frames.specs.Front.{fields_for}
 use Rattle.wal_frames.specs.declared.header.LogHeader.{LogHeader}
 use Rattle.log_pair.specs.Pair.{PairView, new_pair}
-use Rattle.log_pair.specs.Appending.{IsReached}
 use Rattle.log_pair.specs.Switch.{WritesAndSyncs, front_piece}
 use Rattle.log_pair.proofs.Standing.{stands_sealed, since_weaker}
 use Rattle.opening_spec.specs.Found.{OpeningView, FoundLog, IsNextHeader, NamesItsSize, IsFirst, next_log}
@@ -68,15 +66,6 @@ begins_log true header other bytes old new fields steps view later main one two 
 begins_log false header other bytes old new fields steps view later main one two h next none main_is =
     passes_weaker view.opening (LeavesMap view) (LeavesEither view later) (λ told. Unit {0}) (λ told. Unit {0}) (λ told image leaves chance. (inl (leaves chance).0, (leaves chance).1)) (λ told p. p) old new
     (header_passes false view Log1 one two None bytes next old new h steps)
-
--- its file reaches the place of the first frame
-pub begins_reached : (header other : LogHeader) (bytes : List ℕ) (pair : PairView) (old new : Option History) → length bytes ≡ 32 → pair ≡ new_pair 1 header other
-    → new ≡ after (Synced Log1) (after (Wrote (front_piece Log1 bytes)) old) → IsReached new pair
-begins_reached header other bytes pair old new long is step = rw (is, step) (go old)
-  where
-    go : (old : Option History) → IsReached (after (Synced Log1) (after (Wrote (front_piece Log1 bytes)) old)) (new_pair 1 header other)
-    go None = tt
-    go (Some told) = let none : 0 * (24 + header.page_size) ≡ 0 = grind arith in omega (arith, length-overwritten 0 bytes (reads told).log1 (omega arith), long)
 
 -- the commit behind it
 pub founds_pages : (bytes : List ℕ) (pair fresh : PairView) (page : ℕ → List ℕ) (count size : ℕ) (old mid new : Option History) → pair ≡ fresh

@@ -14,7 +14,6 @@ mod HeaderRead
 mod SeenOld
 mod OldView
 mod Judged
-pub mod SeenLaws
 pub mod SeenPages
 pub mod First
 mod FirstPages
@@ -26,4 +25,3 @@ pub mod Readying
 mod Migrating
 pub mod SeenFiles
 pub mod Begun
-pub mod NewAccepted

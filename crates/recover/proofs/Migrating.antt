@@ -240,10 +240,6 @@ module _ (view : OpeningView) (one two : FoundLog) (bytes first : List ℕ) (siz
       (subst (λ (bs : List ℕ). MakesMap (reads told).main view.size later (first_then_zeros bs) 1 (length view.map)) (sym t.2)
       (migrates (reads told).main view.map view.size big on.0 on.1 (some_map told t)))
 
-  -- a disk that doesn't tell
-  dummy : OpeningView
-  dummy = record { opening = view.opening; size = page_size_in (fields_of first); long = 0; map = [] }
-
   pub migrates_not : (old mid : Option History) → Told old → FailsToFound bytes (first_then_zeros first) 1 size old mid → Passes view.opening (LeavesEither view later) (λ told. Unit {0}) old mid
   migrates_not (Some told) mid t fails = fails view later (reads told).main one two (makes told t) t.0 next none (refl, big)
   migrates_not None None t fails = record { each_moment = tt; holds = tt }

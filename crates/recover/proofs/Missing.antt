@@ -12,9 +12,6 @@ use Rattle.recover.specs.Looking.{ArePlaces, is_whole_at, is_whole_in, is_whole_
 pub goes_on : (held : ℕ → Bool) (number count rest : ℕ) → count ≡ suc rest → held number ≡ true → first_missing held (number + 1) rest ≡ first_missing held number count
 goes_on held number count rest is whole = rw (is, whole) refl
 
-pub stops : (held : ℕ → Bool) (number count rest : ℕ) → count ≡ suc rest → held number ≡ false → first_missing held number count ≡ Some number
-stops held number count rest is whole = rw (is, whole) refl
-
 pub same_held : (held other : ℕ → Bool) (number count : ℕ) → ((n : ℕ) → number ≤ n → n < number + count → held n ≡ other n) → first_missing held number count ≡ first_missing other number count
 same_held held other number zero same = refl
 same_held held other number (suc count) same =

@@ -1,13 +1,14 @@
 -- What the pages of a new database tell.
-use Rattle.std.proofs.Common.{◌≡◌, ◌⊎◌, ℕ, ◌+◌, ◌*◌, ◌/◌, ◌%◌, ◌^◌, ◌≤◌, Bool, true, false, ◌||◌, inl, inr, List, length, refl, sym, ◌∙◌, ap, subst, arith}
-use Rattle.std.specs.Prelude.{nat_eq}
+use Rattle.std.proofs.Common.{◌≡◌, ◌⊎◌, ℕ, ◌+◌, ◌-◌, ◌*◌, ◌/◌, ◌%◌, ◌^◌, ◌≤◌, Bool, true, false, ◌||◌, inl, inr, List, ◌++◌, length, length-append, refl, sym, ◌∙◌, ap, subst, arith}
+use Rattle.std.specs.Prelude.{nat_eq, replicate}
 use Rattle.std.proofs.lemmas.Bool.Decides.{nat_tests}
+use Rattle.std.proofs.lemmas.List.{length-replicate}
 use Rattle.page_spec.specs.Bytes.{u16_at, u32_at}
 use Rattle.page_spec.specs.Header.{fields_of, page_size_in, pages_in, spelled_page_size, is_page_size}
 use Rattle.page_spec.specs.PageMap.{page_at}
 use Rattle.recover.specs.declared.setup.StoreKind.{StoreKind}
 use Rattle.recover.specs.declared.setup.StoreKind.TheVariants.{Pages, Tables}
-use Rattle.recover.specs.NewPages.{new_count, new_first_page, new_pages, first_then_zeros}
+use Rattle.recover.specs.NewPages.{new_count, new_front, new_first_page, new_pages, first_then_zeros}
 use Rattle.recover.specs.Founding.{MakesMap}
 use Rattle.recover.proofs.FirstPages.{makes_new}
 
@@ -58,6 +59,18 @@ pub first_counts : (kind : StoreKind) (size long : ℕ) → pages_in (new_first_
 unfolding fields_of new_first_page pages_in u32_at
 first_counts Pages size long = refl
 first_counts Tables size long = refl
+
+-- page 1 of a new database has as many bytes as a page
+pub first_long : (kind : StoreKind) (size : ℕ) → 108 ≤ size → length (new_first_page kind size) ≡ size
+unfolding new_first_page
+first_long kind size big = by kind
+  where
+    all : 108 + (size - 108) ≡ size
+    all = omega arith
+
+    by : (kind : StoreKind) → length (new_front kind size ++ replicate (size - 108) 0) ≡ size
+    by Pages = length-append (new_front Pages size) (replicate (size - 108) 0) ∙ ap (λ (n : ℕ). 108 + n) (length-replicate (size - 108) 0) ∙ all
+    by Tables = length-append (new_front Tables size) (replicate (size - 108) 0) ∙ ap (λ (n : ℕ). 108 + n) (length-replicate (size - 108) 0) ∙ all
 
 pub new_length : (kind : StoreKind) (size : ℕ) → length (new_pages kind size) ≡ new_count kind
 unfolding new_pages

@@ -78,9 +78,6 @@ abbrev pub is_in_main : Place → Bool
 is_in_main InMain = true
 is_in_main (InLog file at) = false
 
-pub is_named : List ℕ → ℕ → Bool
-is_named pages number = list_any (λ n. n == number) pages
-
 pub after_main : (log : File) (size count : ℕ) (pages : List ℕ) (number : ℕ) (place : Place) → is_in_main (place_after log size count pages number place) ≡ (is_in_main place && not (list_any (λ n. n == number) pages))
 after_main log size count [] number place = none (is_in_main place)
   where

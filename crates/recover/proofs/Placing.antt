@@ -23,7 +23,7 @@ use Rattle.opening_spec.proofs.Synced.{synced_images}
 use Rattle.opening_spec.proofs.Written.{page_passed, page_of_both, long_passed}
 use Rattle.recover.specs.declared.place.Place.{Place}
 use Rattle.recover.specs.declared.place.Place.TheVariants.{InMain, InLog}
-use Rattle.recover.specs.Places.{FitsPlace, FitPlaces, IsPlaceOf, ArePlacesOf, AreSeen, SameReads, OnlyMain}
+use Rattle.recover.specs.Places.{FitsPlace, IsPlaceOf, ArePlacesOf, AreSeen, SameReads, OnlyMain}
 
 -- reads give the same
 pub same_at : (old new : Option History) → new ≡ old → SameReads old new
@@ -150,22 +150,6 @@ only_join (Some old) None new one two = absurd one
 only_join None None (Some new) one two = absurd two
 only_join (Some old) (Some mid) None one two = absurd two
 
--- so the places fit still
-same_log : (old new : Files) (log : File) → new.log1 ≡ old.log1 → new.log2 ≡ old.log2 → length old.main ≤ length new.main → length (content old log) ≤ length (content new log)
-same_log old new Main is1 is2 longer = longer
-same_log old new Log1 is1 is2 longer = omega (arith, ap (λ (bytes : List ℕ). length bytes) is1)
-same_log old new Log2 is1 is2 longer = omega (arith, ap (λ (bytes : List ℕ). length bytes) is2)
-
-fits_same : (size number : ℕ) (place : Place) (old new : Files) → new.log1 ≡ old.log1 → new.log2 ≡ old.log2 → length old.main ≤ length new.main → FitsPlace old size number place → FitsPlace new size number place
-fits_same size number InMain old new is1 is2 longer fits = omega arith
-fits_same size number (InLog file at) old new is1 is2 longer fits = omega (arith, same_log old new file is1 is2 longer)
-
-pub fits_still : (size number : ℕ) (place : Place) (old new : Option History) → OnlyMain old new → IfSome old (λ told. FitsPlace (reads told) size number place) → IfSome new (λ told. FitsPlace (reads told) size number place)
-fits_still size number place None None only fits = tt
-fits_still size number place None (Some new) only fits = absurd only
-fits_still size number place (Some old) None only fits = absurd only
-fits_still size number place (Some old) (Some new) (is1, is2, longer) fits = fits_same size number place (reads old) (reads new) is1 is2 longer fits
-
 same_content : (old new : Files) (log : File) → IsLog log → new.log1 ≡ old.log1 → new.log2 ≡ old.log2 → content new log ≡ content old log
 same_content old new Main is is1 is2 = absurd is
 same_content old new Log1 is is1 is2 = is1
@@ -191,12 +175,6 @@ place_still view one two number place None None only is = tt
 place_still view one two number place None (Some new) only is = absurd only
 place_still view one two number place (Some old) None only is = absurd only
 place_still view one two number place (Some old) (Some new) (is1, is2, longer) is = place_same view one two number place (reads old) (reads new) is1 is2 is
-
--- of one among many
-pub fits_one : (size : ℕ) (places : List Place) (k : ℕ) (none : Place) (told : Option History) → k < length places → IfSome told (λ told. FitPlaces (reads told) size places)
-    → IfSome told (λ told. FitsPlace (reads told) size (k + 1) (slice_index_or places k none))
-fits_one size places k none None less fit = tt
-fits_one size places k none (Some told) less fit = fit k none less
 
 pub place_one : (view : OpeningView) (one two : FoundLog) (places : List Place) (k : ℕ) (none : Place) (told : Option History) → k < length places → IfSome told (λ told. ArePlacesOf view one two (reads told) places)
     → IfSome told (λ told. IsPlaceOf view one two (reads told) (k + 1) (slice_index_or places k none))

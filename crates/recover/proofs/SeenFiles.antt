@@ -254,9 +254,6 @@ map_now : (view : OpeningView) (one two : FoundLog) (told : History) → Since v
 map_now view one two told (since, grew, syncing) =
     ap (λ (files : Files). map_in files one two) (ap reads grew ∙ rebased_reads view.opening.start since) ∙ syncing.opened.is
 
-no_one : ℕ → FoundLog
-no_one salt = record { frames = []; salt = salt; most = 0 }
-
 -- what each of the three ways says
 abbrev pub NewSays : StoreKind → (front1 front2 : Front) → (size : ℕ) → Result PairView Failed → Option History → Option History → Type 0
 NewSays kind front1 front2 size result old new =

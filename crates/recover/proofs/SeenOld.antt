@@ -114,10 +114,6 @@ module _ (files : Files) (one two : Accepted) (main : ℕ) (first : First) (scan
   abbrev given : ℕ
   given = pages_in (first_in files) (length files.main)
 
-  map_is : map_found files
-      ≡ pages_from (λ number. page_in size files (one_in files) (two_in files) number) 1 (size_after (newer_in files (one_in files) (two_in files)) (size_after (older_in files (one_in files) (two_in files)) given))
-  map_is = refl
-
   pub counted : pages_told one two first.header.pages ≡ length (map_found files)
   counted =
       ap (λ (n : ℕ). pages_told one two n) given_is ∙ by (earlier files one two scanned) ∙ sym (in_order files one two scanned (λ (older newer : List Frame). size_after newer (size_after older given)) (λ frames. refl))

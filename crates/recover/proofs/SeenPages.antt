@@ -1,24 +1,18 @@
--- The pages of the recovered map have the page size that was seen, page 1 has the fields that were read, and the places are those by which an
--- opening goes.
-use Rattle.std.proofs.Common.{◌≡◌, inl, inr, ℕ, zero, suc, ◌+◌, ◌-◌, ◌*◌, ◌≤◌, ◌<◌, Bool, false, if◌then◌else◌, List, [], length, take, drop, refl, sym, ◌∙◌, ap, subst, arith, max, length-drop}
-use Rattle.std.specs.Prelude.{nat_lt, slice_index, slice_index_or}
+-- The pages of the recovered map have the page size that was seen.
+use Rattle.std.proofs.Common.{◌≡◌, ℕ, zero, suc, ◌+◌, ◌-◌, ◌*◌, ◌≤◌, ◌<◌, Bool, false, if◌then◌else◌, List, [], length, take, drop, refl, sym, ◌∙◌, ap, subst, arith, length-drop}
+use Rattle.std.specs.Prelude.{nat_lt, slice_index_or}
 use Rattle.std.proofs.lemmas.List.{length-take-le}
 use Rattle.disk_face.specs.Files.{Files, content}
-use Rattle.page_spec.specs.Header.{HeaderFields, fields_of, pages_in}
-use Rattle.page_spec.specs.PageMap.{PageMap, page_at, reserved_of}
+use Rattle.page_spec.specs.Header.{pages_in}
+use Rattle.page_spec.specs.PageMap.{page_at}
 use Rattle.log_spec.specs.LogHeader.{log_fields}
-use Rattle.log_spec.specs.Accept.{Frame}
-use Rattle.crash_spec.specs.Recovered.{main_page, page_after_frames, pages_from, size_after, first_bytes}
-use Rattle.crash_spec.proofs.Overlaid.{held_or_not}
-use Rattle.opening_spec.specs.Found.{OpeningView, NamesItsSize, older_in, newer_in, page_in}
-use Rattle.opening_spec.proofs.Laid.{page_1_is, header-take}
+use Rattle.crash_spec.specs.Recovered.{main_page, pages_from, size_after}
+use Rattle.opening_spec.specs.Found.{OpeningView, older_in, newer_in, page_in}
 use Rattle.opening_spec.proofs.Written.{page_of_neither}
 use Rattle.recover.specs.declared.place.Place.{Place}
 use Rattle.recover.specs.declared.place.Place.TheVariants.{InMain, InLog}
-use Rattle.recover.specs.Places.{IsPlaceOf, FitsPlace, AreSeen}
-use Rattle.recover.specs.Seeing.{SeenView, IsSeen, IsWholeSeen, one_in, two_in, first_in, size_in, map_found}
-use Rattle.recover.proofs.Page1.{same_pages_in}
-use Rattle.recover.proofs.Page1Read.{roomy_size}
+use Rattle.recover.specs.Places.{IsPlaceOf, FitsPlace}
+use Rattle.recover.specs.Seeing.{SeenView, IsSeen, one_in, two_in, first_in, size_in, map_found}
 use Rattle.recover.proofs.Placing.{held_by_either}
 
 -- the pages from a number on, one by one
@@ -51,10 +45,6 @@ whole_page files size number view InMain sized some free fits =
 whole_page files size number view (InLog file at) sized some (is_log, held, is) fits =
     ap (λ (page : List ℕ). length page) (sym (subst (λ (n : ℕ). take n (drop at (content files file)) ≡ page_in n files (one_in files) (two_in files) number) sized is))
     ∙ length-take-le size (drop at (content files file)) (omega (arith, length-drop at (content files file), fits))
-
-reserved_field : (page : List ℕ) → (fields_of page).reserved ≡ slice_index page 20
-unfolding fields_of
-reserved_field page = refl
 
 module _ (new_size : ℕ) (files : Files) (seen : SeenView) (s : IsSeen new_size files seen) (old : seen.is_new ≡ false) where
   size_is : seen.page_size ≡ size_in files
@@ -91,62 +81,3 @@ module _ (new_size : ℕ) (files : Files) (seen : SeenView) (s : IsSeen new_size
         long = 0;
         map = [];
       }
-
-  -- page 1 of the map has the fields that were read
-  pub fields_found : IsWholeSeen seen → 1 ≤ length (map_found files) → fields_of (first_in files) ≡ fields_of (page_at (map_found files) 1)
-  fields_found whole some =
-      same (older_in files (one_in files) (two_in files)) (newer_in files (one_in files) (two_in files)) ∙ ap (λ (page : List ℕ). fields_of page) (sym (page_found 0 some))
-    where
-      wide : 512 ≤ size_in files
-      wide = subst (λ (n : ℕ). 512 ≤ n) size_is (roomy_size seen.page_size whole.page_size)
-
-      main : List ℕ
-      main = files.main
-
-      own : List ℕ
-      own = main_page (size_in files) files.main 1
-
-      bare : fields_of (take 100 main) ≡ fields_of own
-      bare = header-take 100 main (omega arith) ∙ sym (header-take (size_in files) main (omega (arith, wide))) ∙ ap (λ (page : List ℕ). fields_of page) (sym (page_1_is (size_in files) main))
-
-      below : (older : List Frame) → fields_of (page_after_frames older 1 (take 100 main)) ≡ fields_of (page_after_frames older 1 own)
-      below older =
-          elim (held_or_not older 1) [
-            | inl held ↦ ap (λ (page : List ℕ). fields_of page) (held (take 100 main) own)
-            | inr (none, keeps) ↦ ap (λ (page : List ℕ). fields_of page) (keeps (take 100 main)) ∙ bare ∙ ap (λ (page : List ℕ). fields_of page) (sym (keeps own))
-          ]
-
-      same : (older newer : List Frame) → fields_of (first_bytes main older newer) ≡ fields_of (page_after_frames newer 1 (page_after_frames older 1 own))
-      same older newer =
-          elim (held_or_not newer 1) [
-            | inl held ↦ ap (λ (page : List ℕ). fields_of page) (held (page_after_frames older 1 (take 100 main)) (page_after_frames older 1 own))
-            | inr (none, leaves) ↦
-                ap (λ (page : List ℕ). fields_of page) (leaves (page_after_frames older 1 (take 100 main))) ∙ below older ∙ ap (λ (page : List ℕ). fields_of page) (sym (leaves (page_after_frames older 1 own)))
-          ]
-
-  some_found : 1 ≤ length (map_found files)
-  some_found = omega (arith, count_is, s.some_page old)
-
-  -- how much of a page is in use
-  pub seen_usable : IsWholeSeen seen → seen.page_size ≡ seen.usable + reserved_of (map_found files)
-  seen_usable whole =
-      s.usable ∙ ap (λ (new : Bool). seen.usable + (if new then 0 else (fields_of (first_in files)).reserved)) old
-      ∙ ap (λ (n : ℕ). seen.usable + n) (ap (λ (fields : HeaderFields). fields.reserved) (fields_found whole some_found) ∙ reserved_field (page_at (map_found files) 1))
-
-  -- What an opening goes by, where page 1 names the size of the map.
-  pub seen_names : (view : OpeningView) → IsWholeSeen seen → view.map ≡ map_found files → view.long ≡ length files.main → view.size ≡ seen.page_size → seen.named ≡ length seen.places
-      → NamesItsSize view (one_in files) (two_in files)
-  seen_names view whole map long sized named =
-      inr
-      (rw (map, long, sized)
-      (sym (same_pages_in (first_in files) (page_at (map_found files) 1) (max (length files.main) (length (map_found files) * seen.page_size)) (fields_found whole some_found)) ∙ sym (s.named old) ∙ named ∙ count_is))
-
-  pub seen_are : (view : OpeningView) → IsWholeSeen seen → view.map ≡ map_found files → view.long ≡ length files.main → view.size ≡ seen.page_size → seen.named ≡ length seen.places
-      → AreSeen view (one_in files) (two_in files) seen.places files
-  seen_are view whole map long sized named = record {
-    standing = s.standing view sized;
-    count = count_is ∙ ap (λ (pages : PageMap). length pages) (sym map);
-    some = omega (arith, some_found, ap (λ (pages : PageMap). length pages) map);
-    names = seen_names view whole map long sized named;
-    long = sym long;
-  }

@@ -5,3 +5,4 @@ pub mod Looking
 pub mod NewPages
 pub mod Founding
 pub mod Ready
+pub mod Texts

@@ -39,6 +39,12 @@ pub record SeenView : Type 0 where
   pub some_frames : Bool
   pub places : List Place
 
+-- a log begins with a header of ours
+abbrev pub is_front_ours : Front → Bool
+is_front_ours Nothing = false
+is_front_ours (Foreign version at) = false
+is_front_ours (Ours header) = true
+
 -- what is found of log 1 and of log 2
 abbrev pub one_in : Files → FoundLog
 one_in files = found_in Log1 files
@@ -90,13 +96,17 @@ founds seen = seen.is_new || not seen.is_ours
 abbrev pub newest_of : Front → Front → ℕ
 newest_of one two = max (generation_in one) (generation_in two)
 
+-- the generation of log 1's header as the store begins, by what was seen; that of log 2's is one less
+abbrev pub generation_seen : SeenView → ℕ
+generation_seen seen = last_written (founds seen) (newest_of seen.one seen.two)
+
 -- What holds of what was seen, whatever the disk tells.
 pub record IsWholeSeen (seen : SeenView) : Type 0 where
   pub page_size : IsTrue (is_page_size seen.page_size)
   pub usable : (480 ≤ seen.usable) × (seen.usable ≤ seen.page_size)
   pub one : IsLegalFront 1 seen.one
   pub two : IsLegalFront 2 seen.two
-  pub room : last_written (founds seen) (newest_of seen.one seen.two) ≤ last_generation
+  pub room : generation_seen seen ≤ last_generation
   pub few : length seen.places < 4294967295
 
 -- the recovered map, and its page 1
@@ -159,16 +169,28 @@ of_size (Ours header) size log = if header.page_size == size then None else Some
 abbrev pub size_fault : Front → List Frame → ℕ → File → Option LookFault
 size_fault front frames size log = if is_some_list frames then of_size front size log else None
 
+-- the greatest generation of a header of ours in the logs, 0 where there is none
+abbrev pub greatest_generation : Files → ℕ
+greatest_generation files = newest_of (front_of 1 files.log1) (front_of 2 files.log2)
+
+-- an opening of these files makes a commit of its own
+abbrev pub founds_in : Files → Bool
+founds_in files = is_new_in files || not (is_ours_in files)
+
+-- The generation of log 1's header as the store begins on these files; that of log 2's is one less, the least even one from two more than the
+-- greatest one on. Where the opening makes a commit of its own, log 1 has a header before that, which is then the one of the greatest
+-- generation: the least odd one from two more than the greatest one in these files on.
+abbrev pub generation_opened : Files → ℕ
+generation_opened files = last_written (founds_in files) (greatest_generation files)
+
 -- no generation is left for the headers that an opening writes
 abbrev pub higher_log : Front → Front → File
 higher_log one two = if nat_lt (generation_in one) (generation_in two) then Log2 else Log1
 
 abbrev pub room_fault : Files → Option LookFault
 room_fault files =
-    let one = front_of 1 files.log1 in
-    let two = front_of 2 files.log2 in
-    if nat_le (last_written (is_new_in files || not (is_ours_in files)) (newest_of one two)) last_generation then None
-    else Some (ForeignLog (higher_log one two) 12)
+    if nat_le (generation_opened files) last_generation then None
+    else Some (ForeignLog (higher_log (front_of 1 files.log1) (front_of 2 files.log2)) 12)
 
 -- a frame holds the page, or Main holds it whole
 abbrev pub is_held : Files → ℕ → Bool

@@ -11,13 +11,14 @@ ghost use Rattle.wal_frames.specs.Front.{fields_for, IsLegalFront};
 ghost use Rattle.wal_frames.specs.declared.header.Front.TheVariants.{Ours};
 ghost use Rattle.crash_spec.specs.Opening.{Since};
 ghost use Rattle.crash_spec.specs.Passes.{Passes, WhereDone};
+ghost use Rattle.log_pair.specs.Pair.{current_header};
 ghost use Rattle.opening_spec.specs.Found.{FoundLog, OpeningView, IsFirst, IsNextHeader, next_log};
 ghost use Rattle.opening_spec.specs.States.{IsSyncing, IsSettled, LeavesOpening};
 ghost use Rattle.recover.specs.Headers.{last_salt, generation_in, first_of};
 ghost use Rattle.recover.specs.NewPages.{new_pages, migrated};
 ghost use Rattle.recover.specs.Places.{FitPlaces, AreSeen};
 ghost use Rattle.recover.specs.Ready.{IsNewPair, LeavesSettling, ReadyWith, store_view};
-ghost use Rattle.recover.specs.Seeing.{next_odd};
+ghost use Rattle.recover.specs.Seeing.{next_odd, last_written, newest_of};
 
 use crate::founding::{found_migrated, found_new};
 use crate::header::{NewHeaders, first_headers, next_headers, reset_logs};
@@ -83,6 +84,7 @@ pub(crate) fn settle_new<D: Disk, W: Salts>(
     requires size { (512 ≤ length buf.old) × (length buf.old ≤ 65536) }
     requires generations { next_odd (max (generation_in one.now) (generation_in two.now)) + 4 ≤ last_generation }
     ensures pair { IfOk result (IsNewPair (length buf.old)) }
+    ensures generation { IfOk result (λ pair. (current_header pair).generation ≡ last_written true (newest_of one.now two.now)) }
     ensures moments { (view : OpeningView) (has1 has2 : FoundLog) → Since view.opening.start (IsSyncing view has1 has2 []) (D.told disk.old) → length buf.old ≡ view.size
         → has1.frames ≡ [] → has2.frames ≡ [] → IfSome (D.told disk.old) (λ told. (reads told).main ≡ [])
         → has1.salt ≡ last_salt one.now % 2 ^ 32 → has2.salt ≡ last_salt two.now % 2 ^ 32 → has1.most ≡ 0 → has2.most ≡ 0
@@ -115,6 +117,7 @@ pub(crate) fn settle_ours<D: Disk, W: Salts>(
     requires few { length places.now < 4294967295 }
     requires fits { IfSome (D.told disk.old) (λ told. FitPlaces (reads told) (length buf.old) places.now) }
     ensures pair { IfOk result (IsNewPair (length buf.old)) }
+    ensures generation { IfOk result (λ pair. (current_header pair).generation ≡ last_written false (newest_of one.now two.now)) }
     ensures moments { (view : OpeningView) (has1 has2 : FoundLog) → Since view.opening.start (IsSyncing view has1 has2 []) (D.told disk.old) → length buf.old ≡ view.size
         → (some_frames ≡ false → (has1.frames ≡ []) × (has2.frames ≡ [])) → (some_frames ≡ true → IfSome (D.told disk.old) (λ told. AreSeen view has1 has2 places.now (reads told)))
         → IfSome (D.told disk.old) (λ told. IsFirst (reads told) (first_of one.now two.now) has1 has2) → 1 ≤ length view.map
@@ -207,6 +210,7 @@ pub(crate) fn settle_migrated<D: Disk, W: Salts>(
     requires fits { IfSome (D.told disk.old) (λ told. FitPlaces (reads told) (length buf.old) places.now) }
     requires whole { some_frames ≡ false → IsInside (D.told disk.old) Main (length places.now * length buf.old) 0 }
     ensures pair { IfOk result (IsNewPair (length buf.old)) }
+    ensures generation { IfOk result (λ pair. (current_header pair).generation ≡ last_written true (newest_of one.now two.now)) }
     ensures moments { (view : OpeningView) (has1 has2 : FoundLog) → Since view.opening.start (IsSyncing view has1 has2 []) (D.told disk.old) → length buf.old ≡ view.size
         → has2.frames ≡ [] → (some_frames ≡ false → has1.frames ≡ []) → IfSome (D.told disk.old) (λ told. AreSeen view has1 has2 places.now (reads told))
         → 1 ≤ length view.map → has1.salt ≡ last_salt one.now % 2 ^ 32 → has2.salt ≡ last_salt two.now % 2 ^ 32 → has1.most ≡ 0 → has2.most ≡ 0

@@ -2,7 +2,7 @@
 //
 // The log of lower generation is first: while its header is torn, Main with the other log's frames is the map. The other way round a
 // torn header would uncover older frames.
-ghost use Rattle.std.specs.Prelude.{◌≡◌, ◌⊎◌, ◌+◌, ◌%◌, ◌<◌, ◌^◌, true, is_ok, Option, Some, None, IsTrue, ◌≤◌, max};
+ghost use Rattle.std.specs.Prelude.{◌≡◌, ◌⊎◌, ◌+◌, ◌%◌, ◌<◌, ◌^◌, true, false, is_ok, Option, Some, None, IsTrue, ◌≤◌, max};
 ghost use Rattle.disk_face.specs.Faults.{Counts};
 ghost use Rattle.disk_face.specs.Stays.{OnlyWrites};
 ghost use Rattle.disk_face.specs.declared.disk.File.{File as Files};
@@ -17,7 +17,7 @@ ghost use Rattle.crash_spec.specs.Passes.{Passes, WhereDone};
 ghost use Rattle.opening_spec.specs.Found.{FoundLog, OpeningView, IsNextHeader, found_log, next_log};
 ghost use Rattle.opening_spec.specs.States.{IsResetting, HasReset, IsSettled, LeavesMap, header1_of, header2_of};
 ghost use Rattle.recover.specs.Headers.{last_salt, generation_in, next_even, first_of};
-ghost use Rattle.recover.specs.Seeing.{next_odd};
+ghost use Rattle.recover.specs.Seeing.{next_odd, last_written, newest_of};
 ghost use Rattle.wal_frames.specs.declared.header.Front.TheVariants.{Ours};
 
 use disk_face::{Disk, Failed, File, Salts};
@@ -132,6 +132,7 @@ pub(crate) fn next_headers<W: Salts>(
     ensures legal { IsLegalFront 1 (Ours result.one) × IsLegalFront 2 (Ours result.two) }
     ensures sizes { (result.one.page_size ≡ page_size) × (result.two.page_size ≡ page_size) }
     ensures generations { result.one.generation ≡ result.two.generation + 1 }
+    ensures least { result.one.generation ≡ last_written false (newest_of one.now two.now) }
     ensures salts { (result.one.salt1 < 2 ^ 32) × (result.two.salt1 < 2 ^ 32) }
     ensures loans { W.loans salts.new ≡ W.loans salts.old }
 {
@@ -190,6 +191,7 @@ pub(crate) fn first_headers<W: Salts>(
     ensures legal { IsLegalFront 1 (Ours result.commit.header) × IsLegalFront 1 (Ours result.after.one) × IsLegalFront 2 (Ours result.after.two) }
     ensures sizes { (result.commit.header.page_size ≡ page_size) × (result.after.one.page_size ≡ page_size) × (result.after.two.page_size ≡ page_size) }
     ensures generations { result.after.one.generation ≡ result.after.two.generation + 1 }
+    ensures least { result.after.one.generation ≡ last_written true (newest_of one.now two.now) }
     ensures salts { (result.after.one.salt1 < 2 ^ 32) × (result.after.two.salt1 < 2 ^ 32) }
     ensures loans { W.loans salts.new ≡ W.loans salts.old }
 {

@@ -1,40 +1,60 @@
 // What an opening sees of a database's files before it writes anything.
 ghost use Rattle.std.specs.Prelude.{◌≡◌, ◌<◌, length};
+ghost use Rattle.crash_spec.specs.Marks.{number_of};
+ghost use Rattle.recover.specs.Seeing.{is_front_ours};
 
 use crate::place::Place;
 use db_header::HeaderFault;
 use disk_face::File;
+use std::error::Error;
+use std::fmt;
 use std::marker::Model;
-use thiserror::Error;
 use wal_frames::Front;
 
 /// Why a database isn't opened. Where several causes stand together, the first of this list is told; a call on the disk that fails is told
 /// when it fails. The texts are told to users as they stand.
-#[derive(Clone, Copy, Debug, PartialEq, Eq, Error)]
+#[derive(Clone, Copy, Debug, PartialEq, Eq)]
 pub enum LookFault {
     /// The header on page 1 is refused.
-    #[error("{0}")]
     Header(HeaderFault),
     /// Its versions are 2, 2, and log 1 is one of SQLite's own.
-    #[error("wal mode")]
     WalMode,
     /// A rollback journal stands beside it.
-    #[error("hot journal")]
     HotJournal,
     /// A log's header is signed and not ours, by the field at this offset in bytes: 4 the version, 8 the page size, also where it isn't
     /// that of page 1, 12 the generation, also where none is left that an opening could write.
-    #[error("foreign log {} at {at}", log_number(file))]
     ForeignLog { file: File, at: u64 },
     /// The first page up to the size that neither a log nor the database holds whole.
-    #[error("missing page {page}")]
     Missing { page: u32 },
     /// The disk failed.
-    #[error("disk failed")]
     Disk,
     /// Want of memory.
-    #[error("out of memory")]
     Memory,
 }
+
+impl fmt::Display for LookFault {
+    ghost use Rattle.std.specs.Prelude.{Some};
+    ghost use Rattle.recover.specs.Texts.{look_text};
+
+    ghost output = { λ fault. Some (look_text fault) };
+
+    fn fmt<W: fmt::Write>(&self, f: &mut fmt::Formatter<W>) -> fmt::Result {
+        match *self {
+            LookFault::Header(fault) => write!(f, "{fault}"),
+            LookFault::WalMode => write!(f, "wal mode"),
+            LookFault::HotJournal => write!(f, "hot journal"),
+            LookFault::ForeignLog { file, at } => {
+                let number = log_number(file);
+                write!(f, "foreign log {number} at {at}")
+            }
+            LookFault::Missing { page } => write!(f, "missing page {page}"),
+            LookFault::Disk => write!(f, "disk failed"),
+            LookFault::Memory => write!(f, "out of memory"),
+        }
+    }
+}
+
+impl Error for LookFault {}
 
 /// What an opening has seen. A contract sees it as [`SeenView`](crate::specs).
 #[derive(Debug, Drop)]
@@ -123,11 +143,27 @@ impl Seen {
     {
         self.byte
     }
+
+    /// The versions on page 1 are this program's.
+    pub fn is_ours(&self) -> bool
+        ensures { result ≡ self.now.is_ours }
+    {
+        self.is_ours
+    }
+
+    /// Log 2 begins with a header of ours.
+    pub fn has_second_log(&self) -> bool
+        ensures { result ≡ is_front_ours self.now.two }
+    {
+        matches!(self.two, Front::Ours(_))
+    }
 }
 
 // The number of a log.
-fn log_number(file: &File) -> u8 {
-    match *file {
+fn log_number(file: File) -> u8
+    ensures { result ≡ number_of file }
+{
+    match file {
         File::Main => 0,
         File::Log1 => 1,
         File::Log2 => 2,

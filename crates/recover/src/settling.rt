@@ -9,11 +9,12 @@ ghost use Rattle.wal_frames.specs.Found.{is_disk_well};
 ghost use Rattle.crash_spec.specs.Marks.{IsLog, other_of};
 ghost use Rattle.crash_spec.specs.Opening.{Since};
 ghost use Rattle.crash_spec.specs.Passes.{Passes, WhereDone};
+ghost use Rattle.log_pair.specs.Pair.{current_header};
 ghost use Rattle.opening_spec.specs.Found.{FoundLog, OpeningView, IsFirst, IsNextHeader, found_log};
 ghost use Rattle.opening_spec.specs.States.{IsSyncing, IsSettled, LeavesOpening, header1_of, header2_of};
 ghost use Rattle.recover.specs.Places.{FitPlaces, AreSeen};
 ghost use Rattle.recover.specs.Ready.{IsNewPair, IsViewOf, LeavesSettling, ReadyWith, first_map};
-ghost use Rattle.recover.specs.Seeing.{IsSeen, IsWholeSeen};
+ghost use Rattle.recover.specs.Seeing.{IsSeen, IsWholeSeen, generation_opened, generation_seen};
 
 use crate::begin::{settle_migrated, settle_new, settle_ours};
 use crate::header::{NewHeaders, reset_logs};
@@ -95,6 +96,7 @@ fn settle_seen<D: Disk, W: Salts>(
     requires seen { IfSome (D.told disk.old) (λ told. IsSeen (length buf.old) (reads told) seen.now) }
     requires named { seen.now.is_new ≡ false → seen.now.named ≡ length seen.now.places }
     ensures pair { IfOk result (IsNewPair seen.now.page_size) }
+    ensures generation { IfOk result (λ pair. (current_header pair).generation ≡ generation_seen seen.now) }
     ensures moments { (view : OpeningView) (one two : FoundLog) → Since view.opening.start (IsSyncing view one two []) (D.told disk.old)
         → IfSome (D.told disk.old) (λ told. IsViewOf seen.now (reads told) view one two)
         → Passes view.opening (LeavesSettling view (first_map kind seen.now view.size view.map)) (ReadyWith result view (first_map kind seen.now view.size view.map)) (D.told disk.old) (D.told disk.new) }
@@ -131,6 +133,10 @@ fn settle_seen<D: Disk, W: Salts>(
 /// pages, and one whose versions aren't this program's gets these; and both logs get new headers. Log 1 is the current one then, and
 /// neither log has a frame.
 ///
+/// Log 2's header has the least even generation from two more than the greatest one of a header of ours on, and log 1's the one after it.
+/// Where new pages or versions were written, the greatest one is that of the header behind which they were committed: the least odd one
+/// from two more than the greatest one before it on.
+///
 /// It needs what was seen of this disk as it is, the same setup, and that page 1 names the recovered size. Memory is taken before the
 /// first write, for one page; after `Memory` the disk is as before. After `Disk` the count of faults rose, and the files are somewhere on
 /// the way.
@@ -148,6 +154,7 @@ pub fn settle<D: Disk, W: Salts>(
     requires seen { IfSome (D.told disk.old) (λ told. IsSeen setup.now.page_size (reads told) seen) }
     requires named { seen.is_new ≡ false → seen.named ≡ length seen.places }
     ensures pair { IfOk result (IsNewPair seen.page_size) }
+    ensures generation { IfOk result (λ pair. IfSome (D.told disk.old) (λ told. (current_header pair).generation ≡ generation_opened (reads told))) }
     ensures moments { (view : OpeningView) (one two : FoundLog) → Since view.opening.start (IsSyncing view one two []) (D.told disk.old)
         → IfSome (D.told disk.old) (λ told. IsViewOf seen (reads told) view one two)
         → Passes view.opening (LeavesSettling view (first_map setup.now.kind seen view.size view.map)) (ReadyWith result view (first_map setup.now.kind seen view.size view.map)) (D.told disk.old) (D.told disk.new) }

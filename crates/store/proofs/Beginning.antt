@@ -97,7 +97,7 @@ is_legal n is = elim (one_of (nat_eq n 512) _ is) [
 ]
 
 -- what a generation of log 1 is
-generation_of_one : (g : ℕ) → is_generation 1 g ≡ true → (1 ≤ g) × (g ≤ last_generation) × (g % 2 ≡ 1)
+pub generation_of_one : (g : ℕ) → is_generation 1 g ≡ true → (1 ≤ g) × (g ≤ last_generation) × (g % 2 ≡ 1)
 unfolding is_generation
 generation_of_one g is = (grind (arith, nat_tests), grind (arith, nat_tests), grind (arith, nat_tests))
 

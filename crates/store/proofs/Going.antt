@@ -43,30 +43,29 @@ pub not_halted : (kept : StoreData) (told : Option History) (page_size : ℕ) (s
 not_halted kept told page_size spare None is = refl
 not_halted kept told page_size spare (Some halt) is = absurd cc
 
-module _ {D W M : Type 0} (disk : DiskGhosts D) (loans : W → List ℕ) (means : Meaning M) (readers : Readers) (old new : Store D W M) (pins : List Pin) (pin : Pin) (plan : Plan) (prepared : Prepared M) (who : Who)
-    (live : IsLiveIn disk old readers pins) (none : old.stop ≡ None) (may : may_switch (two_logs (kept_of old)) readers (kept_of old).history ≡ true)
+module _ {D W M : Type 0} (disk : DiskGhosts D) (loans : W → List ℕ) (means : Meaning M) (readers : Readers) (old new : Store D W M) (plan : Plan) (prepared : Prepared M)
+    (none : old.stop ≡ None) (may : may_switch (two_logs (kept_of old)) readers (kept_of old).history ≡ true)
     (stays : OnlyWrites disk old.disk new.disk) (salts : loans new.salts ≡ loans old.salts) where
   names : disk.loans new.disk ++ loans new.salts ≡ disk.loans old.disk ++ loans old.salts
   names = λ i. stays.loans i ++ salts i
 
-  pub over_ok : (result : Result Unit Failed) → (salt2 : ℕ) × HasSwitched (kept_of old) (is_ok result) new.pair salt2 (disk.told old.disk) (disk.told new.disk)
+  pub over_ok : (pins : List Pin) → IsLiveIn disk old readers pins → (result : Result Unit Failed) → (salt2 : ℕ) × HasSwitched (kept_of old) (is_ok result) new.pair salt2 (disk.told old.disk) (disk.told new.disk)
       → OnOk result (kept_of new ≡ gone_over (kept_of old) new.pair (bare new.index)) → OnOk result (HasCleared (kept_of old) (bare new.index))
       → Counts (is_ok result) (disk.faults old.disk) (disk.faults new.disk) → OnOk result (IsReadyFrom disk loans means (before_of disk loans old) readers new)
-  over_ok (Err why) has becomes cleared counts = tt
-  over_ok (Ok done) has becomes cleared counts =
+  over_ok pins live (Err why) has becomes cleared counts = tt
+  over_ok pins live (Ok done) has becomes cleared counts =
       ready_over disk loans means readers old new pins has.0 live none may has.1 cleared becomes counts names
 
   pub over_failed : (result : Result Unit Failed) (changed : List PageImage) → changed ≡ prepared.changed → (salt2 : ℕ) × HasSwitched (kept_of old) (is_ok result) new.pair salt2 (disk.told old.disk) (disk.told new.disk)
       → OnErr result (kept_of new ≡ stopped (kept_of old) new.pair (kept_stop (other_number old.pair.current) 0 old.size (images_of old.buf.items changed plan.order.items)))
-      → Counts (is_ok result) (disk.faults old.disk) (disk.faults new.disk) → IsAble disk new → Contains pins pin → IsFit (state_of disk old readers) pin prepared → IsClear (state_of disk old readers) (submitted prepared who)
-      → IsPlanOf prepared.changed plan → IfSome (newest_told (kept_of old) (disk.told old.disk)) (λ pages. old.buf.items ≡ page_at (laid pages (change_in prepared)) 1)
-      → OnErr result (CommittedFrom disk loans means (before_of disk loans old) readers pin prepared who (Err (fault.Disk, prepared)) new)
-  over_failed (Ok done) changed same has stops counts able there fit clear is is_first = tt
-  over_failed (Err why) changed same has stops counts able there fit clear is is_first =
+      → Counts (is_ok result) (disk.faults old.disk) (disk.faults new.disk) → IsAble disk new → IsPlanOf prepared.changed plan
+      → IfSome (newest_told (kept_of old) (disk.told old.disk)) (λ pages. old.buf.items ≡ page_at (laid pages (change_in prepared)) 1)
+      → OnErr result ((pins : List Pin) (pin : Pin) (who : Who) → IsLiveIn disk old readers pins → Contains pins pin → IsFit (state_of disk old readers) pin prepared
+      → IsClear (state_of disk old readers) (submitted prepared who) → CommittedFrom disk loans means (before_of disk loans old) readers pin prepared who (Err (fault.Disk, prepared)) new)
+  over_failed (Ok done) changed same has stops counts able is is_first = tt
+  over_failed (Err why) changed same has stops counts able is is_first = λ pins pin who live there fit clear.
+      let smaller : pin.size ≤ (kept_of old).size = All-contains (λ (one : Pin). one.size ≤ (kept_of old).size) pins pin live.steady.smaller there in
       torn_from disk loans means readers old new pins pin has.0 (images_of old.buf.items prepared.changed plan.order.items) prepared who live none may has.1
       (subst (λ (images : List PageImage). kept_of new ≡ stopped (kept_of old) new.pair (kept_stop (other_number old.pair.current) 0 old.size (images_of old.buf.items images plan.order.items))) same stops)
       (is_laid (kept_of old) (state_of disk old readers) pin prepared plan old.buf.items refl fit smaller is (disk.told old.disk) readers pins (commit_of (submitted prepared who) plan.wrote) live.live live.steady.named is_first refl).lies
       clear counts able names
-    where
-      smaller : pin.size ≤ (kept_of old).size
-      smaller = All-contains (λ (one : Pin). one.size ≤ (kept_of old).size) pins pin live.steady.smaller there

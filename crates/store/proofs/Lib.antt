@@ -18,5 +18,7 @@ mod Resting
 mod Calls
 mod Beginning
 mod Settled
+pub mod Mixed
 mod OpenLaws
 mod Opened
+pub mod OpenedStores

@@ -28,8 +28,7 @@ use Rattle.recover.specs.Ready.{IsReady, IsViewOf, LeavesSettling, first_map}
 use Rattle.recover.specs.Seeing.{SeenView, IsSeen, IsWholeSeen, one_in, two_in, founds, header_fault, wal_fault, foreign_fault, size_fault, room_fault, missing_fault, first_fault, fault_of, is_new_in, is_ours_in, size_in, map_found}
 use Rattle.recover.specs.declared.seen.LookFault.{LookFault}
 use Rattle.recover.specs.declared.setup.StoreKind.TheVariants.{Pages}
-use Rattle.recover.proofs.NewAccepted.{first_long}
-use Rattle.recover.proofs.NewPages.{new_length}
+use Rattle.recover.proofs.NewPages.{first_long, new_length}
 use Rattle.recover.proofs.Readying.{nothing_done}
 use Rattle.recover.proofs.SeenFiles.{legal_size, new_is}
 use Rattle.recover.proofs.SeenPages.{seen_pages}

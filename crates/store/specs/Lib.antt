@@ -10,3 +10,4 @@ pub mod Tells
 pub mod Committing
 pub mod CommittedFrom
 pub mod Solo
+pub mod Texts

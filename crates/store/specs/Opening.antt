@@ -1,10 +1,12 @@
 -- What an opening asks of a database's files, and how a store begins.
-use Rattle.std.specs.Prelude.{◌≡◌, ◌⊎◌, ℕ, ◌+◌, ◌*◌, ◌==◌, max, Bool, true, false, ◌&&◌, ◌||◌, if◌then◌else◌, [], length, slice_index, Option, Some, None, IfSome, Result, Ok, Err}
+use Rattle.std.specs.Prelude.{◌≡◌, ◌⊎◌, ℕ, ◌+◌, ◌*◌, ◌==◌, max, Bool, true, false, ◌&&◌, ◌||◌, not, if◌then◌else◌, [], length, slice_index, Option, Some, None, IfSome, Result, Ok, Err}
 use Rattle.disk_face.specs.Faults.{Rose}
 use Rattle.disk_face.specs.Files.{Files}
 use Rattle.disk_face.specs.Steps.{History, reads}
 use Rattle.page_spec.specs.Header.{fields_of, pages_in}
 use Rattle.page_spec.specs.PageMap.{PageMap, page_at}
+use Rattle.wal_frames.specs.declared.header.Front.{Front}
+use Rattle.wal_frames.specs.Front.{front_of}
 use Rattle.crash_spec.specs.Opening.{Opening}
 use Rattle.crash_spec.specs.Recovered.{recovered}
 use Rattle.opening_spec.specs.Found.{OpeningView}
@@ -13,7 +15,7 @@ use Rattle.wal_index.specs.Index.{Indexed, IndexedLog}
 use Rattle.wal_rules.specs.declared.state.LogState.{LogState}
 use Rattle.recover.specs.NewPages.{new_pages, migrated}
 use Rattle.recover.specs.Ready.{IsNewPair, IsReady}
-use Rattle.recover.specs.Seeing.{SeenView, is_new_in, is_ours_in, size_in, first_in, two_in, map_found, fault_of, files_told, RefusesLook}
+use Rattle.recover.specs.Seeing.{SeenView, is_new_in, is_ours_in, size_in, first_in, two_in, map_found, fault_of, files_told, is_front_ours, RefusesLook}
 use Rattle.recover.specs.declared.setup.StoreKind.TheVariants.{Pages}
 use Rattle.recover.specs.declared.seen.LookFault.{LookFault}
 use Rattle.recover.specs.declared.seen.LookFault.TheVariants as look
@@ -52,6 +54,18 @@ byte_in files = slice_index (page_at (map_found files) 1) 100
 
 abbrev pub pages_fault : Files → Option OpenFault
 pages_fault files = fault_by (is_new_in files) (length (map_found files)) (named_in files) (byte_in files)
+
+-- The versions of a database that is there aren't this program's while log 2 begins with a header of ours. No file that only this program and programs
+-- that know one log worked on is like that: log 2 gets its first header after Main has this program's versions.
+abbrev pub is_mixed_by : (new ours : Bool) → (two : Front) → Bool
+is_mixed_by new ours two = not new && not ours && is_front_ours two
+
+-- by what was seen, and of these files
+abbrev pub is_mixed_seen : SeenView → Bool
+is_mixed_seen seen = is_mixed_by seen.is_new seen.is_ours seen.two
+
+abbrev pub is_mixed : Files → Bool
+is_mixed files = is_mixed_by (is_new_in files) (is_ours_in files) (front_of 2 files.log2)
 
 -- the page size of a database as it is opened: a new one gets this one
 abbrev pub size_opened : (new_size : ℕ) → Files → ℕ
@@ -131,12 +145,18 @@ pub record AreFine (hot : Option Bool) (files : Files) : Type 0 where
   pub asked : IfSome hot (λ hot. fault_of files hot ≡ None)
   pub fine : fault_of files false ≡ None
 
+-- Files are no page store, told by this count and this byte 100: a count or that byte isn't a page store's, or their versions and log 2 don't go together.
+abbrev pub IsRefusedBy : Files → (pages byte : ℕ) → Type 0
+IsRefusedBy files pages byte =
+    (pages_fault files ≡ Some (NotPages pages byte))
+    ⊎ ((pages_fault files ≡ None) × (is_mixed files ≡ true) × (pages ≡ length (map_found files)) × (byte ≡ byte_in files))
+
 -- An opening was refused. Before it wrote anything where the files show why, each fault exactly where it is the first one, or memory was wanting; and a
 -- disk has failed only where its count rose.
 abbrev pub RefusesOpen : (before after : ℕ) → (old new : Option History) → (hot : Option Bool) → OpenFault → Type 0
 RefusesOpen before after old new hot (Look why) = IsOfFiles why × RefusesLook before after (files_told old) hot why × (new ≡ old) × (after ≡ before)
 RefusesOpen before after old new hot (NotPages pages byte) =
-    IfSome old (λ told. AreFine hot (reads told) × (pages_fault (reads told) ≡ Some (NotPages pages byte))) × (new ≡ old) × (after ≡ before)
+    IfSome old (λ told. AreFine hot (reads told) × IsRefusedBy (reads told) pages byte) × (new ≡ old) × (after ≡ before)
 RefusesOpen before after old new hot Disk = Rose before after
 RefusesOpen before after old new hot Memory = (new ≡ old) × (after ≡ before)
 
@@ -144,6 +164,7 @@ RefusesOpen before after old new hot Memory = (new ≡ old) × (after ≡ before
 pub record AreOpened (hot : Option Bool) (files : Files) : Type 0 where
   pub look : AreFine hot files
   pub pages : pages_fault files ≡ None
+  pub settles : is_mixed files ≡ false
 
 -- a store has the sizes of these files, where a new one gets this page size
 pub record HasSizesOf (new_size : ℕ) (files : Files) (kept : StoreData) : Type 0 where

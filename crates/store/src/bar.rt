@@ -1,6 +1,7 @@
 // What bars a commit, before anything is read or taken.
 ghost use Rattle.std.specs.Prelude.{◌≡◌, ◌≤◌, ◌<◌, ◌*◌, ◌⊎◌, ◌^◌, ◌+◌, true, false, [], length, MatchOption};
 ghost use Rattle.page_spec.specs.Header.{database_limit};
+ghost use Rattle.engine_spec.specs.declared.commits.Who.{Who as Owner};
 ghost use Rattle.engine_spec.specs.Events.{IsClear};
 ghost use Rattle.engine_spec.specs.TwoLogs.{frame_limit, may_switch, to_write, current_frames};
 ghost use Rattle.page_face.specs.Prepared.{submitted};
@@ -11,7 +12,7 @@ ghost use Rattle.store.specs.Barring.{FindsFor, Bars};
 
 use crate::store::Store;
 use disk_face::{Disk, Salts};
-use page_face::{CommitFault, Means, Mode, Prepared, Readers, Who};
+use page_face::{CommitFault, Means, Mode, Prepared, Readers};
 use wal_rules::{Conflict, least_conflict, may_switch};
 
 // The most bytes that a database may have.
@@ -21,13 +22,8 @@ const MOST_BYTES: u64 = 1 << 30;
 const MOST_FRAMES: u64 = 4_294_967_295;
 
 impl<D: Disk, W: Salts, M: Means> Store<D, W, M> {
-    // The first cause that bars a transaction that wrote, of those that need no memory and no disk.
-    pub(crate) fn bar(
-        &self,
-        readers: &Readers,
-        prepared: &Prepared<M>,
-        who: Who,
-    ) -> Option<CommitFault>
+    // The first cause that bars a transaction that wrote, whosever it is, of those that need no memory and no disk.
+    pub(crate) fn bar(&self, readers: &Readers, prepared: &Prepared<M>) -> Option<CommitFault>
         requires whole { IsWholeStore (kept_of self.now) }
         requires wrote { prepared.now.wrote ≡ true }
         requires least { other_since_of (kept_of self.now) ≤ prepared.now.snap }
@@ -35,10 +31,9 @@ impl<D: Disk, W: Salts, M: Means> Store<D, W, M> {
         requires few { length prepared.now.changed < 2 ^ 32 }
         requires fresh { prepared.now.fresh ≡ [] }
         requires freed { prepared.now.freed ≡ [] }
-        ensures { MatchOption result (IsClear (state_of D.DiskTells self.now readers.now) (submitted prepared.now who))
+        ensures { (who : Owner) → MatchOption result (IsClear (state_of D.DiskTells self.now readers.now) (submitted prepared.now who))
             (λ fault. Bars (state_of D.DiskTells self.now readers.now) (submitted prepared.now who) fault) }
     {
-        let _ = who;
         if let Some(halt) = self.stop {
             return Some(CommitFault::Stopped {
                 log: halt.log,

@@ -4,6 +4,8 @@ ghost use Rattle.page_spec.specs.PageMap.{page_at};
 ghost use Rattle.engine_spec.specs.Change.{laid};
 ghost use Rattle.engine_spec.specs.Events.{IsClear};
 ghost use Rattle.engine_spec.specs.declared.pins.Pin.{Pin as Pins};
+ghost use Rattle.engine_spec.specs.declared.pins.Readers.{Readers as Counted};
+ghost use Rattle.engine_spec.specs.declared.commits.Who.{Who as Owner};
 ghost use Rattle.engine_spec.specs.declared.commits.CommitFault.TheVariants as fault;
 ghost use Rattle.page_face.specs.Pins.{IsLive};
 ghost use Rattle.page_face.specs.Prepared.{IsFit, change_in, submitted};
@@ -38,34 +40,34 @@ impl<D: Disk, W: Salts, M: Means> Store<D, W, M> {
         requires fit { IsFit (state_of D.DiskTells self.old readers.now) pin.now prepared }
         ensures { HasCommitted M.Means (store_tells D.DiskTells W.loans M.Means readers.now) self.old pin.now prepared who result self.new }
     {
+        let _ = pin;
         if !prepared.wrote {
             return Ok(Receipt::ReadOnly(prepared.snap));
         }
-        match self.bar(readers, &prepared, who) {
+        match self.bar(readers, &prepared) {
             Some(fault) => Err((fault, prepared)),
-            None => self.add(pin, readers, prepared, who),
+            None => self.add(readers, prepared, who),
         }
     }
 
-    // Commits a transaction that nothing bars.
+    // Commits a transaction that nothing bars, of whichever pin that holds.
     fn add(
         &mut self,
-        pin: &Pin,
         readers: &Readers,
         prepared: Prepared<M>,
         who: Who,
     ) -> Result<Receipt, (CommitFault, Prepared<M>)>
-        requires live { (pins : List Pins) × IsLiveIn D.DiskTells self.old readers.now pins × Contains pins pin.now }
-        requires fit { IsFit (state_of D.DiskTells self.old readers.now) pin.now prepared }
+        requires live { (pins : List Pins) × (pin : Pins) × IsLiveIn D.DiskTells self.old readers.now pins × Contains pins pin × IsFit (state_of D.DiskTells self.old readers.now) pin prepared }
         requires clear { IsClear (state_of D.DiskTells self.old readers.now) (submitted prepared who) }
-        ensures { CommittedFrom D.DiskTells W.loans M.Means (before_of D.DiskTells W.loans self.old) readers.now pin.now prepared who result self.new }
+        ensures { (pins : List Pins) (pin : Pins) → IsLiveIn D.DiskTells self.old readers.now pins → Contains pins pin → IsFit (state_of D.DiskTells self.old readers.now) pin prepared
+            → CommittedFrom D.DiskTells W.loans M.Means (before_of D.DiskTells W.loans self.old) readers.now pin prepared who result self.new }
     {
         let plan = match self.plan(prepared.changed.as_slice()) {
             Ok(plan) => plan,
             Err(_) => return Err((CommitFault::Memory, prepared)),
         };
         match self.lay(&prepared) {
-            Ok(()) => self.write(pin, readers, plan, prepared, who),
+            Ok(()) => self.write(readers, plan, prepared, who),
             Err(Failed) => Err((CommitFault::Disk, prepared)),
         }
     }
@@ -73,38 +75,34 @@ impl<D: Disk, W: Salts, M: Means> Store<D, W, M> {
     // Writes a commit whose page 1 is in the buffer.
     fn write(
         &mut self,
-        pin: &Pin,
         readers: &Readers,
         plan: Plan,
         prepared: Prepared<M>,
         who: Who,
     ) -> Result<Receipt, (CommitFault, Prepared<M>)>
-        requires live { (pins : List Pins) × IsLiveIn D.DiskTells self.old readers.now pins × Contains pins pin.now }
-        requires fit { IsFit (state_of D.DiskTells self.old readers.now) pin.now prepared }
+        requires live { (pins : List Pins) × (pin : Pins) × IsLiveIn D.DiskTells self.old readers.now pins × Contains pins pin × IsFit (state_of D.DiskTells self.old readers.now) pin prepared }
         requires clear { IsClear (state_of D.DiskTells self.old readers.now) (submitted prepared who) }
         requires plan { IsPlanOf prepared.changed plan }
         requires room { HasPlanRoom self.old (length plan.order.items + 1) }
         requires laid { IfSome (newest_told (kept_of self.old) (D.told self.old.disk)) (λ pages. self.old.buf.items ≡ page_at (laid pages (change_in prepared)) 1) }
-        ensures { CommittedFrom D.DiskTells W.loans M.Means (before_of D.DiskTells W.loans self.old) readers.now pin.now prepared who result self.new }
+        ensures { (pins : List Pins) (pin : Pins) → IsLiveIn D.DiskTells self.old readers.now pins → Contains pins pin → IsFit (state_of D.DiskTells self.old readers.now) pin prepared
+            → CommittedFrom D.DiskTells W.loans M.Means (before_of D.DiskTells W.loans self.old) readers.now pin prepared who result self.new }
     {
-        match self.ready(pin, readers, &plan, &prepared, who) {
-            Ok(()) => self.finish(pin, readers, plan, prepared, who),
+        match self.ready(readers, &plan, &prepared) {
+            Ok(()) => self.finish(plan, prepared, who),
             Err(Failed) => Err((CommitFault::Disk, prepared)),
         }
     }
 
-    // Goes over to the other log where the rule has it so. After `Failed` the commit is refused.
+    // Goes over to the other log where the rule has it so. After `Failed` the commit is refused, whosever it is.
     fn ready(
         &mut self,
-        pin: &Pin,
         readers: &Readers,
         plan: &Plan,
         prepared: &Prepared<M>,
-        who: Who,
     ) -> Result<(), Failed>
-        requires live { (pins : List Pins) × IsLiveIn D.DiskTells self.old readers.now pins × Contains pins pin.now }
-        requires fit { IsFit (state_of D.DiskTells self.old readers.now) pin.now prepared.now }
-        requires clear { IsClear (state_of D.DiskTells self.old readers.now) (submitted prepared.now who) }
+        requires live { (pins : List Pins) × (pin : Pins) × IsLiveIn D.DiskTells self.old readers.now pins × Contains pins pin × IsFit (state_of D.DiskTells self.old readers.now) pin prepared.now }
+        requires clear { (who : Owner) × IsClear (state_of D.DiskTells self.old readers.now) (submitted prepared.now who) }
         requires plan { IsPlanOf prepared.now.changed plan.now }
         requires room { HasPlanRoom self.old (length plan.now.order.items + 1) }
         requires laid { IfSome (newest_told (kept_of self.old) (D.told self.old.disk)) (λ pages. self.old.buf.items ≡ page_at (laid pages (change_in prepared.now)) 1) }
@@ -112,10 +110,10 @@ impl<D: Disk, W: Salts, M: Means> Store<D, W, M> {
         ensures room { OnOk result (HasPlanRoom self.new (length plan.now.order.items + 1)) }
         ensures buf { self.new.buf ≡ self.old.buf }
         ensures able { IsAble D.DiskTells self.new }
-        ensures failed { OnErr result (CommittedFrom D.DiskTells W.loans M.Means (before_of D.DiskTells W.loans self.old) readers.now pin.now prepared.now who (Err (fault.Disk, prepared.now)) self.new) }
+        ensures failed { OnErr result ((pins : List Pins) (pin : Pins) (who : Owner) → IsLiveIn D.DiskTells self.old readers.now pins → Contains pins pin
+            → IsFit (state_of D.DiskTells self.old readers.now) pin prepared.now → IsClear (state_of D.DiskTells self.old readers.now) (submitted prepared.now who)
+            → CommittedFrom D.DiskTells W.loans M.Means (before_of D.DiskTells W.loans self.old) readers.now pin prepared.now who (Err (fault.Disk, prepared.now)) self.new) }
     {
-        let _ = pin;
-        let _ = who;
         if self.goes_over(readers) {
             self.go_over(prepared.changed.as_slice(), plan)
         } else {
@@ -126,26 +124,22 @@ impl<D: Disk, W: Salts, M: Means> Store<D, W, M> {
     // Writes the frames of a commit, and enters it.
     fn finish(
         &mut self,
-        pin: &Pin,
-        readers: &Readers,
         plan: Plan,
         prepared: Prepared<M>,
         who: Who,
     ) -> Result<Receipt, (CommitFault, Prepared<M>)>
-        requires live { (before : Before) × (pins : List Pins) × IsLiveStore before.told before.kept readers.now pins × IsSteady before.told before.kept readers.now pins × Contains pins pin.now
-            × IsReadyFrom D.DiskTells W.loans M.Means before readers.now self.old × IsFit (state_before before readers.now) pin.now prepared
-            × IsClear (state_before before readers.now) (submitted prepared who)
+        requires live { (before : Before) × (readers : Counted) × (pins : List Pins) × (pin : Pins) × IsLiveStore before.told before.kept readers pins × IsSteady before.told before.kept readers pins × Contains pins pin
+            × IsReadyFrom D.DiskTells W.loans M.Means before readers self.old × IsFit (state_before before readers) pin prepared
+            × IsClear (state_before before readers) (submitted prepared who)
             × IfSome (newest_told before.kept before.told) (λ pages. self.old.buf.items ≡ page_at (laid pages (change_in prepared)) 1) }
         requires able { IsAble D.DiskTells self.old }
         requires plan { IsPlanOf prepared.changed plan }
         requires room { HasPlanRoom self.old (length plan.order.items + 1) }
-        ensures { (before : Before) (pins : List Pins) → IsLiveStore before.told before.kept readers.now pins → IsSteady before.told before.kept readers.now pins → Contains pins pin.now
-            → IsReadyFrom D.DiskTells W.loans M.Means before readers.now self.old → IsFit (state_before before readers.now) pin.now prepared → IsClear (state_before before readers.now) (submitted prepared who)
+        ensures { (before : Before) (readers : Counted) (pins : List Pins) (pin : Pins) → IsLiveStore before.told before.kept readers pins → IsSteady before.told before.kept readers pins → Contains pins pin
+            → IsReadyFrom D.DiskTells W.loans M.Means before readers self.old → IsFit (state_before before readers) pin prepared → IsClear (state_before before readers) (submitted prepared who)
             → IfSome (newest_told before.kept before.told) (λ pages. self.old.buf.items ≡ page_at (laid pages (change_in prepared)) 1)
-            → CommittedFrom D.DiskTells W.loans M.Means before readers.now pin.now prepared who result self.new }
+            → CommittedFrom D.DiskTells W.loans M.Means before readers pin prepared who result self.new }
     {
-        let _ = pin;
-        let _ = readers;
         match self.write_frames(prepared.changed.as_slice(), &plan) {
             Ok(()) => Ok(Receipt::At(self.enter(plan.wrote, prepared, who))),
             Err(Failed) => Err((CommitFault::Disk, prepared)),

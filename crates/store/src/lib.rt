@@ -19,7 +19,7 @@ mod write;
 
 pub use commits::{Commits, Wrote};
 pub use kept_pages::KeptPages;
-pub use open_fault::OpenFault;
+pub use open_fault::{OpenFault, append_reason};
 pub use plan::Plan;
 pub use solo::Solo;
 pub use store::{Halt, Store};

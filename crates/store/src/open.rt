@@ -6,11 +6,12 @@ ghost use Rattle.page_spec.specs.Header.{is_page_size};
 ghost use Rattle.page_spec.specs.PageMap.{PageMap};
 ghost use Rattle.crash_spec.specs.Opening.{Since, opening_at};
 ghost use Rattle.crash_spec.specs.Passes.{Passes};
+ghost use Rattle.log_pair.specs.Pair.{current_header};
 ghost use Rattle.opening_spec.specs.Found.{FoundLog, OpeningView};
 ghost use Rattle.opening_spec.specs.States.{IsSyncing};
 ghost use Rattle.opening_spec.specs.Begins.{MayOpen, view_at};
 ghost use Rattle.recover.specs.Ready.{IsViewOf, LeavesSettling, first_map};
-ghost use Rattle.recover.specs.Seeing.{IsSeen, IsWholeSeen};
+ghost use Rattle.recover.specs.Seeing.{IsSeen, IsWholeSeen, generation_opened};
 ghost use Rattle.recover.specs.declared.setup.StoreKind.TheVariants.{Pages};
 ghost use Rattle.store_spec.specs.Store.{newest_told};
 ghost use Rattle.store_spec.specs.Standing.{IsWholeStore, StandsFrom};
@@ -19,7 +20,7 @@ ghost use Rattle.store.specs.Opening.{AreOpened, HasSizesOf, IsBeginning, MaySet
 
 use crate::commits::Commits;
 use crate::kept_pages::KeptPages;
-use crate::open_fault::{OpenFault, PAGE_COUNT, of_look, pages_fault};
+use crate::open_fault::{OpenFault, PAGE_COUNT, is_mixed, of_look, pages_fault};
 use crate::store::Store;
 use disk_face::{Disk, Salts};
 use engine_spec::Entry;
@@ -47,6 +48,7 @@ fn settle_pages<D: Disk, W: Salts + Drop, M: Means>(
     requires seen { IfSome (D.told disk) (λ told. IsSeen setup.page_size (reads told) seen) }
     requires named { seen.is_new ≡ false → seen.named ≡ length seen.places }
     ensures begins { IfOk result (λ store. IsBeginning seen.page_size seen.usable setup.limit (kept_of store)) }
+    ensures generation { IfOk result (λ store. IfSome (D.told disk) (λ told. (current_header (kept_of store).pair).generation ≡ generation_opened (reads told))) }
     ensures able { IfOk result (λ store. IsAble D.DiskTells store) }
     ensures moments { (view : OpeningView) (one two : FoundLog) → Since view.opening.start (IsSyncing view one two []) (D.told disk)
         → IfSome (D.told disk) (λ told. IsViewOf seen (reads told) view one two)
@@ -99,7 +101,11 @@ impl<D: Disk, W: Salts + Drop, M: Means> Store<D, W, M> {
     /// taken before the first write too. After these refusals the disk tells what it told. `Disk` comes where a call on the disk failed; where that was one
     /// that writes, the files are somewhere on the way, and the next opening recovers the same map, or that with which the store would have begun.
     ///
-    /// What is said of the store, and of what a crash leaves, asks that log 2 has no accepted frame where the versions on page 1 aren't this program's.
+    /// The headers that both logs have then are of the generations that [`settle`] says.
+    ///
+    /// `NotPages` refuses too a database whose versions aren't this program's while log 2 begins with a header of ours. So what is said of the store, which
+    /// asks that log 2 has no accepted frame where the versions on page 1 aren't this program's, holds of each store that is answered. What is said of a
+    /// crash asks it too.
     pub fn open(
         alloc: Global,
         disk: D,
@@ -113,6 +119,7 @@ impl<D: Disk, W: Salts + Drop, M: Means> Store<D, W, M> {
         ensures begins { IfOk result (λ store. IsBeginning store.page_size store.usable setup.limit (kept_of store)) }
         ensures whole { IfOk result (λ store. IsWholeStore (kept_of store)) }
         ensures sizes { IfOk result (λ store. IfSome (D.told disk) (λ told. HasSizesOf setup.page_size (reads told) (kept_of store))) }
+        ensures generation { IfOk result (λ store. IfSome (D.told disk) (λ told. (current_header (kept_of store).pair).generation ≡ generation_opened (reads told))) }
         ensures live { IfOk result (λ store. IfSome (D.told disk) (λ told. MaySettle (reads told)) → IsLiveIn D.DiskTells store no_readers []) }
         ensures newest { IfOk result (λ store. IfSome (D.told disk) (λ told. MaySettle (reads told) → newest_told (kept_of store) (D.told store.disk) ≡ Some (map_opened setup.page_size (reads told)))) }
         ensures runs { IfOk result (λ store. (first : PageMap) → IfSome (D.told disk) (λ told. MaySettle (reads told) × (first ≡ map_opened setup.page_size (reads told)) × M.sound first first)
@@ -129,10 +136,16 @@ impl<D: Disk, W: Salts + Drop, M: Means> Store<D, W, M> {
         match look(alloc, &mut disk, &setup) {
             Ok(seen) => match pages_fault(&seen) {
                 Some(fault) => Err((fault, disk)),
-                None => match settle_pages(alloc, disk, salts, seen, setup) {
-                    Ok(store) => Ok(store),
-                    Err(refused) => Err(refused),
-                },
+                None => {
+                    if is_mixed(&seen) {
+                        let (pages, byte) = (seen.pages(), seen.byte());
+                        return Err((OpenFault::NotPages { pages, byte }, disk));
+                    }
+                    match settle_pages(alloc, disk, salts, seen, setup) {
+                        Ok(store) => Ok(store),
+                        Err(refused) => Err(refused),
+                    }
+                }
             },
             Err(why) => Err((of_look(why), disk)),
         }

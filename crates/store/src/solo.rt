@@ -9,12 +9,14 @@ ghost use Rattle.page_spec.specs.Header.{is_page_size};
 ghost use Rattle.page_spec.specs.PageMap.{PageMap};
 ghost use Rattle.crash_spec.specs.Opening.{Opening, opening_at};
 ghost use Rattle.crash_spec.specs.Passes.{Passes};
+ghost use Rattle.log_pair.specs.Pair.{current_header};
 ghost use Rattle.opening_spec.specs.Begins.{MayOpen, view_at};
 ghost use Rattle.engine_spec.specs.TwoLogs.{one_fewer, change_readers};
 ghost use Rattle.page_face.specs.Pins.{IsLive};
 ghost use Rattle.page_face.specs.Prepared.{IsFit};
 ghost use Rattle.page_face.specs.Calls.{HasCommitted, IsGoodForOthers};
 ghost use Rattle.recover.specs.Ready.{LeavesSettling};
+ghost use Rattle.recover.specs.Seeing.{generation_opened};
 ghost use Rattle.recover.specs.declared.setup.StoreKind.TheVariants.{Pages};
 ghost use Rattle.store.specs.Kept.{kept_of, state_of};
 ghost use Rattle.store.specs.Opening.{AreOpened, HasSizesOf, IsBeginning, MaySettle, StandsAs, RefusesOpen, disk_of, map_opened, size_opened};
@@ -83,6 +85,7 @@ impl<D: Disk, W: Salts + Drop, M: Means> Solo<D, W, M> {
         requires kind { setup.kind ≡ Pages }
         ensures begins { IfOk result (λ solo. IsBeginning (store_of solo).page_size (store_of solo).usable setup.limit (kept_of (store_of solo))) }
         ensures sizes { IfOk result (λ solo. IfSome (D.told disk) (λ told. HasSizesOf setup.page_size (reads told) (kept_of (store_of solo)))) }
+        ensures generation { IfOk result (λ solo. IfSome (D.told disk) (λ told. (current_header (kept_of (store_of solo)).pair).generation ≡ generation_opened (reads told))) }
         ensures state { IfOk result (λ solo. ⟦<Solo<D, W, M> as EngineTells<M>>⟧.state solo ≡ state_of D.DiskTells (store_of solo) no_readers) }
         ensures live { IfOk result (λ solo. IfSome (D.told disk) (λ told. MaySettle (reads told)) → ⟦<Solo<D, W, M> as EngineTells<M>>⟧.live solo []) }
         ensures newest { IfOk result (λ solo. IfSome (D.told disk) (λ told. MaySettle (reads told)

@@ -1,6 +1,6 @@
 -- A step of a checkpoint keeps the store, its maps and its pins, and at each moment of it a crash leaves one of its maps.
-use Rattle.std.proofs.Common.{◌≡◌, ◌≢◌, ◌∙◌, inl, inr, ℕ, false, List, ◌∷◌, ◌++◌, refl, sym, ap, subst, arith, Option, Some, None}
-use Rattle.std.specs.Prelude.{MatchOption, Contains, Result, Ok, Err, IfOk}
+use Rattle.std.proofs.Common.{◌≡◌, ◌≢◌, ◌∙◌, inl, inr, ℕ, false, List, ◌∷◌, refl, sym, ap, subst, arith, Option, Some, None}
+use Rattle.std.specs.Prelude.{MatchOption, Contains, Result}
 use Rattle.std.specs.Option.{option_map}
 use Rattle.std.proofs.lemmas.Bool.{true≢false}
 use Rattle.disk_face.specs.declared.Failed.{Failed}
@@ -18,14 +18,10 @@ use Rattle.crash_spec.proofs.Rebased.{rebased_reads}
 use Rattle.engine_spec.specs.declared.pins.Pin.{Pin}
 use Rattle.engine_spec.specs.declared.pins.Ckpt.{Ckpt}
 use Rattle.engine_spec.specs.declared.pins.Readers.{Readers}
-use Rattle.engine_spec.specs.Leaves.{may_recover, if_told, kept_map, RecoversOneOf, LeavesOneOf, AtEach}
-use Rattle.engine_spec.specs.TwoLogs.{TwoLogs, Steps}
+use Rattle.engine_spec.specs.Leaves.{may_recover, kept_map, RecoversOneOf, LeavesOneOf, AtEach}
 use Rattle.wal_rules.specs.declared.state.LogState.{LogState}
-use Rattle.wal_rules.specs.Rules.{logs_with}
-use Rattle.wal_rules.specs.Indexing.{IsIndexOf}
 use Rattle.log_commit.specs.Commit.{map_under}
-use Rattle.checkpoint.proofs.Stepping.{is_step}
-use Rattle.store_spec.specs.Store.{StoreData, KeptStop, current_read, other_read, newest_in, view_of, two_logs, newest_told, stop_map, stop_told, store_state}
+use Rattle.store_spec.specs.Store.{StoreData, KeptStop, current_read, other_read, newest_in, view_of, newest_told, stop_map, stop_told, store_state}
 use Rattle.store_spec.specs.Standing.{IsWholeStore, IsLiveStore, IsRunning, IsStoreOn, IsTornOn, StandsOn, IsOpenedAt}
 use Rattle.store_spec.specs.Steps.{HasTakenStep, stepped}
 use Rattle.store_spec.proofs.Taken.{Taken, Stays, Goes, taken, pages_are}
@@ -149,33 +145,6 @@ module _ (kept : StoreData) (readers : Readers) (state : LogState) where
   moments_step result (Some told) new opening faults whole has (Goes step same unfinished free current goes) (since, is, inr torn) =
       absurd (true≢false (sym torn.done ∙ unfinished))
 
--- the logs as the rules see them
-pub logs_are : (kept : StoreData) → IsWholeStore kept → logs_with kept.state (two_logs kept) ≡ two_logs kept
-logs_are kept whole = λ i. record {
-  current = whole.current i;
-  generation = (two_logs kept).generation;
-  since = (two_logs kept).since;
-  other_since = (two_logs kept).other_since;
-  done = kept.state.done;
-  copied = kept.state.copied;
-  limit = kept.limit;
-}
-
-pub logs_become : (kept : StoreData) (state : LogState) → state.current ≡ kept.pair.current → logs_with state (two_logs kept) ≡ two_logs (stepped kept state)
-logs_become kept state same = λ i. record {
-  current = same i;
-  generation = (two_logs kept).generation;
-  since = (two_logs kept).since;
-  other_since = (two_logs kept).other_since;
-  done = state.done;
-  copied = state.copied;
-  limit = kept.limit;
-}
-
-current_stays : (kept : StoreData) (readers : Readers) (state : LogState) (old new : Option History) → Taken kept readers state old new → state.current ≡ kept.state.current
-current_stays kept readers state old new (Stays is same) = ap (λ (s : LogState). s.current) is
-current_stays kept readers state old new (Goes step same unfinished free current goes) = current
-
 -- The newest map stays, and so does the one that is on its way.
 pub step_newest : (kept : StoreData) (readers : Readers) (pins : List Pin) (result : Result Ckpt Failed) (state : LogState) (old new : Option History)
     → IsLiveStore old kept readers pins → HasTakenStep kept readers result state old new → newest_told (stepped kept state) new ≡ newest_told kept old
@@ -206,26 +175,3 @@ pub step_moments : (kept : StoreData) (readers : Readers) (pins : List Pin) (res
     → AtEach (λ opening. IsOpenedAt opening kept old) (may_recover (store_state old faults kept readers)) old new
 step_moments kept readers pins result state old new faults live has opening h =
     moments_step kept readers state result old new opening faults live.whole has (taken kept readers pins result state old new live has) h
-
--- It is a step of the two logs.
-pub step_logs : (kept : StoreData) (readers : Readers) (pins : List Pin) (result : Result Ckpt Failed) (state : LogState) (old new : Option History)
-    → IsLiveStore old kept readers pins → HasTakenStep kept readers result state old new
-    → IfOk result (λ answer. Steps (two_logs kept) readers kept.history answer (two_logs (stepped kept state)))
-step_logs kept readers pins (Err why) state old new live has = tt
-step_logs kept readers pins (Ok answer) state old new live has =
-    subst (λ (logs : TwoLogs). Steps (two_logs kept) readers kept.history answer logs) (logs_become kept state (current ∙ live.whole.current))
-    (subst (λ (logs : TwoLogs). Steps logs readers kept.history answer (logs_with state (two_logs kept))) (logs_are kept live.whole)
-    (is_step kept.pair kept.index kept.state readers (two_logs kept) kept.history has.does.0 old new state
-    (subst (λ (logs : TwoLogs). IsIndexOf kept.index logs kept.history) (sym (logs_are kept live.whole)) live.whole.index) answer has.does.1))
-  where
-    current : state.current ≡ kept.state.current
-    current = current_stays kept readers state old new (taken kept readers pins (Ok answer) state old new live has)
-
--- After the step a crash may leave the same maps as before it.
-pub step_may_recover : (kept : StoreData) (readers : Readers) (pins : List Pin) (result : Result Ckpt Failed) (state : LogState) (old new : Option History) (faults later : ℕ)
-    → IsLiveStore old kept readers pins → HasTakenStep kept readers result state old new
-    → may_recover (store_state new later (stepped kept state) readers) ≡ may_recover (store_state old faults kept readers)
-step_may_recover kept readers pins result state old new faults later live has =
-    let newest = step_newest kept readers pins result state old new live has in
-    let stopped = step_stop kept readers pins result state old new live has in
-    λ i. if_told (newest i) ++ kept_map (stopped i)

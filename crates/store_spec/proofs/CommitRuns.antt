@@ -60,9 +60,6 @@ module _ (sound : PageMap → Type 0) (leads : PageMap → List (List ℕ) → P
 
   module _ (more : List Frame) (told new : History) (whole : IsWholeStore kept) (whole_later : IsWholeStore later) (few : length commits ≤ 1)
       (read : HasRead kept.pair later.pair more (reads told) (reads new)) where
-    Is : ℕ → PageMap → Type 0
-    Is n map = sound map × leads first (statements_of (take n later.history)) map
-
     moved : (n : ℕ) (before after : PageMap) → n ≤ length kept.history → after ≡ before
         → sound before × leads first (statements_of (take n kept.history)) before → sound after × leads first (statements_of (take n later.history)) after
     moved n before after within same is =

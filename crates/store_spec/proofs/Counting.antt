@@ -19,13 +19,6 @@ same_is Part1Full2 = refl
 same_is Part2 = refl
 same_is Part2Full1 = refl
 
--- the readers of the lock that changes, and of the others
-changed_same : (change : ℕ → ℕ) (readers : Readers) (lock : Lock) → readers_of (change_readers change readers lock) lock ≡ change (readers_of readers lock)
-changed_same change readers Part1 = refl
-changed_same change readers Part1Full2 = refl
-changed_same change readers Part2 = refl
-changed_same change readers Part2Full1 = refl
-
 changed_other : (change : ℕ → ℕ) (readers : Readers) (lock other : Lock) → same_lock lock other ≡ false → readers_of (change_readers change readers lock) other ≡ readers_of readers other
 changed_other change readers Part1 Part1 apart = absurd cc
 changed_other change readers Part1 Part1Full2 apart = refl

@@ -60,15 +60,6 @@ both_read told kept readers pins live = by live.opened.0 live.opened.1 (there li
               (record { valid = there.other.0; there = there.other.1; pages = there.other_pages }),
         )
 
--- both logs have their frames
-pub current_there : (told : History) (kept : StoreData) (readers : Readers) (pins : List Pin) → IsLiveStore (Some told) kept readers pins
-    → HasFrames (Some told) (log_file kept.pair.current) (current_header kept.pair) (current_read kept.pair (reads told))
-current_there told kept readers pins live = let one = (both_read told kept readers pins live).0 in (one.valid, one.there)
-
-pub other_there : (told : History) (kept : StoreData) (readers : Readers) (pins : List Pin) → IsLiveStore (Some told) kept readers pins
-    → HasFrames (Some told) (log_file (other_number kept.pair.current)) (log_of kept.pair (other_number kept.pair.current)).header (other_read kept.pair (reads told))
-other_there told kept readers pins live = let other = (both_read told kept readers pins live).1 in (other.valid, other.there)
-
 -- a log's frames as the index has them
 module _ (kept : StoreData) (log : ℕ) (told : History) (is : IsReadLog kept log (reads told)) (page : ℕ) where
   abbrev frames : List Frame
@@ -211,14 +202,6 @@ pin_named (Some told) kept readers pins place default live named within = by (li
         apart : (b : Bool) → (b ≡ true → pin.generation ≡ (current_header kept.pair).generation) → (if b then over pin.mark else below pin.mark) ≡ kept.page_size
         apart true same = absurd (omega (arith, same refl, of.generation))
         apart false same = ap below of.mark ∙ named.older some pin.n of.front
-
-pub fetched_pin : (told : Option History) (kept : StoreData) (readers : Readers) (pins : List Pin) (place : ℕ) (default : Pin) (page : ℕ) (found : Option (ℕ × ℕ)) (bytes : List ℕ)
-    → IsLiveStore told kept readers pins → AreNamed told kept readers → place < length pins → 1 ≤ page → page ≤ (get_or pins place default).size
-    → FindsPage kept (get_or pins place default) page found → IsFetched told kept page found bytes
-    → IfSome (pin_told kept told (get_or pins place default)) (λ pages. bytes ≡ page_at pages page)
-fetched_pin told kept readers pins place default page found bytes live named within from inside finds has =
-    fetched told kept readers pins (get_or pins place default) page found bytes live (live.hold place default within)
-    (pin_named told kept readers pins place default live named within) from inside finds has
 
 -- The same of the newest map, with all frames of the current log.
 pub fetched_newest : (told : Option History) (kept : StoreData) (readers : Readers) (pins : List Pin) (page : ℕ) (found : Option (ℕ × ℕ)) (bytes : List ℕ)

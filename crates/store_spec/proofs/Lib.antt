@@ -10,7 +10,6 @@ pub mod Stepping
 pub mod CheckpointLaws
 pub mod PinLaws
 pub mod FetchLaws
-pub mod MayStep
 pub mod NamedLaws
 pub mod Commits
 pub mod FramesStand

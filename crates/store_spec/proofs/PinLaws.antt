@@ -90,14 +90,6 @@ pin_current kept pin files is = by (pin.generation == (current_header kept.pair)
     by true is = refl
     by false is = absurd (true≢false (sym is))
 
-pub pin_other : (kept : StoreData) (pin : Pin) (files : Files) → pin.generation + 1 ≡ (current_header kept.pair).generation → pin_map_in kept.pair pin files ≡ map_below kept.pair pin.mark files
-pin_other kept pin files is = by (pin.generation == (current_header kept.pair).generation) (Decides-eqb pin.generation (current_header kept.pair).generation).0
-  where
-    by : (same : Bool) → (same ≡ true → pin.generation ≡ (current_header kept.pair).generation)
-        → (if same then map_over kept.pair pin.mark files else map_below kept.pair pin.mark files) ≡ map_below kept.pair pin.mark files
-    by true same = absurd (omega (arith, same refl, is))
-    by false same = refl
-
 module _ (kept : StoreData) (state : LogState) where
   front_goes : (n : ℕ) → IsFront kept n → IsFront (stepped kept state) n
   front_goes n front = record { least = front.least; most = front.most; held = front.held }

@@ -1,9 +1,8 @@
--- The pin of a reader that comes now, and how the logs stand, from what is counted.
-use Rattle.std.proofs.Common.{◌≡◌, ◌∙◌, ℕ, length, sym, ap, Some}
+-- The pin of a reader that comes now, and the two logs as the rules see them, from what is counted.
+use Rattle.std.proofs.Common.{◌≡◌, ◌∙◌, ℕ, length, sym, ap}
 use Rattle.engine_spec.specs.declared.pins.Pin.{Pin}
 use Rattle.engine_spec.specs.declared.pins.Lock.{Lock}
-use Rattle.engine_spec.specs.declared.pins.Logs.{Logs}
-use Rattle.engine_spec.specs.TwoLogs.{lock_of, current_frames, told_logs}
+use Rattle.engine_spec.specs.TwoLogs.{lock_of, current_frames}
 use Rattle.wal_rules.specs.Rules.{logs_with, logs_within}
 use Rattle.log_pair.specs.Pair.{log_of, current_header}
 use Rattle.store_spec.specs.Store.{StoreData, two_logs}
@@ -45,9 +44,3 @@ pin_is kept whole n generation mark lock n_is generation_is mark_is lock_is =
     let counted : mark ≡ length (current_frames (two_logs kept) kept.history) = mark_is ∙ frames_count kept whole in
     let held : lock ≡ lock_of (two_logs kept) = lock_is ∙ ap lock_of (state_is kept whole) in
     λ i. record { n = n_is i; size = kept.size; lock = held i; generation = generation_is i; mark = counted i }
-
-pub logs_are : (kept : StoreData) → IsWholeStore kept → (frames : ℕ) → frames ≡ (log_of kept.pair kept.pair.current).frames
-    → ◌≡◌ {A = Logs} (record { current = kept.pair.current; frames = frames; done = kept.state.done }) (told_logs (Some (two_logs kept)) kept.history)
-logs_are kept whole frames is =
-    let counted : frames ≡ length (current_frames (two_logs kept) kept.history) = is ∙ frames_count kept whole in
-    λ i. record { current = kept.pair.current; frames = counted i; done = kept.state.done }

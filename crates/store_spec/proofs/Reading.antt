@@ -1,66 +1,28 @@
--- The frames of a log by their count, and the pages of an overlaid map by its last frames.
-use Rattle.std.proofs.Common.{◌≡◌, ◌∙◌, ℕ, zero, suc, ◌-◌, ◌≤◌, ◌<◌, ◌==◌, if◌then◌else◌, Bool, true, false, List, [], ◌∷◌, length, take, drop, refl, sym, ap, subst, arith, Some, slice_index}
+-- The frames of a log on a disk, and the pages of an overlaid map by its last frames.
+use Rattle.std.proofs.Common.{◌≡◌, ◌∙◌, ℕ, zero, suc, ◌-◌, ◌≤◌, ◌<◌, ◌==◌, if◌then◌else◌, Bool, true, false, List, [], ◌∷◌, length, take, refl, sym, ap, subst, arith, Some, slice_index}
 use Rattle.std.specs.Prelude.{IfSome, slice_get}
-use Rattle.std.specs.List.{concat}
 use Rattle.std.proofs.lemmas.List.{take_all}
 use Rattle.std.proofs.lemmas.Bool.Decides.{Decides-eqb}
 use Rattle.disk_face.specs.declared.disk.File.{File}
-use Rattle.disk_face.specs.Files.{content}
-use Rattle.disk_face.specs.Steps.{History, reads}
+use Rattle.disk_face.specs.Steps.{History}
 use Rattle.page_spec.specs.PageMap.{page_at}
-use Rattle.log_spec.specs.Checksum.{Sum}
-use Rattle.log_spec.specs.LogHeader.{LogFields, header_size}
-use Rattle.log_spec.specs.Accept.{Frame, AreValidFrames, sum_after, page_number, page_of, page_numbers}
-use Rattle.log_spec.specs.Frames.{frame_size}
+use Rattle.log_spec.specs.LogHeader.{LogFields}
+use Rattle.log_spec.specs.Accept.{Frame, AreValidFrames, page_number, page_of, page_numbers}
 use Rattle.crash_spec.specs.Opening.{Opening}
 use Rattle.crash_spec.specs.Logs.{IsOnDisk}
 use Rattle.crash_spec.specs.Recovered.{main_page, page_after_frames, overlaid, laid_over, size_after, first_bytes}
 use Rattle.page_spec.specs.Header.{pages_in}
 use Rattle.page_spec.specs.PageMap.{PageMap}
 use Rattle.crash_spec.specs.Store.{named_size}
-use Rattle.wal_frames.specs.Found.{log_file}
 use Rattle.wal_index.specs.Frames.{IsFrameOf, IsLastFrame}
-use Rattle.log_pair.specs.Pair.{PairView, log_of}
 use Rattle.log_pair.specs.Appending.{HasFrames, IsPageOf}
-use Rattle.log_pair.proofs.Reading.{front_of_row, rest_of_row}
 use Rattle.log_commit.proofs.Lying.{page_of_map, length-pages}
-use Rattle.store_spec.specs.Store.{frames_in, frames_read}
-
--- Frames that stand at the front of some bytes, and are valid, are cut out of them by their count.
-pub frames_are : (header : LogFields) (sum : Sum) (frames : List Frame) (bytes : List ℕ) → take (length (concat frames)) bytes ≡ concat frames → AreValidFrames header sum frames
-    → frames_in (frame_size header) (length frames) bytes ≡ frames
-frames_are header sum [] bytes there valid = refl
-frames_are header sum (frame ∷ rest) bytes there valid =
-    let size : frame_size header ≡ length frame = sym valid.0.whole in
-    let first : take (frame_size header) bytes ≡ frame = subst (λ (n : ℕ). take n bytes ≡ frame) (sym size) (front_of_row frame (concat rest) bytes there) in
-    let behind : take (length (concat rest)) (drop (frame_size header) bytes) ≡ concat rest =
-    subst (λ (n : ℕ). take (length (concat rest)) (drop n bytes) ≡ concat rest) (sym size) (rest_of_row frame (concat rest) bytes there) in
-    let others : frames_in (frame_size header) (length rest) (drop (frame_size header) bytes) ≡ rest =
-    frames_are header (sum_after header sum frame) rest (drop (frame_size header) bytes) behind valid.1 in
-    λ i. first i ∷ others i
-
--- the frames of a log that a pair counts
-pub read_is : (pair : PairView) (log : ℕ) (told : History) (frames : List Frame) → HasFrames (Some told) (log_file log) (log_of pair log).header frames
-    → length frames ≡ (log_of pair log).frames → frames_read pair log (reads told) ≡ frames
-read_is pair log told frames (valid, there) counted =
-    ap (λ (n : ℕ). frames_in (frame_size (log_of pair log).header) n (drop header_size (content (reads told) (log_file log)))) (sym counted)
-    ∙ frames_are (log_of pair log).header (log_of pair log).header.sum frames (drop header_size (content (reads told) (log_file log))) there valid
 
 -- a log that is on the disk has its frames
 pub on_has : (opening : Opening) (told : History) (log : File) (header : LogFields) (frames pending : List Frame) → IsOnDisk opening told log header frames pending
     → HasFrames (Some told) log header frames
 on_has opening told log header frames pending on =
     (subst (λ (h : LogFields). AreValidFrames h h.sum frames) on.same_header on.committed.valid, on.committed.there)
-
-pub read_on : (opening : Opening) (pair : PairView) (log : ℕ) (told : History) (header : LogFields) (frames pending : List Frame)
-    → IsOnDisk opening told (log_file log) header frames pending → (log_of pair log).header ≡ header → length frames ≡ (log_of pair log).frames
-    → frames_read pair log (reads told) ≡ frames
-read_on opening pair log told header frames pending on same counted =
-    read_is pair log told frames (subst (λ (h : LogFields). HasFrames (Some told) (log_file log) h frames) (sym same) (on_has opening told (log_file log) header frames pending on)) counted
-
-pub length-frames_in : (size count : ℕ) (bytes : List ℕ) → length (frames_in size count bytes) ≡ count
-length-frames_in size zero bytes = refl
-length-frames_in size (suc count) bytes = ap suc (length-frames_in size count (drop size bytes))
 
 -- A page of an overlaid map is that of the newer frames over the older ones over Main.
 pub page_of_overlaid : (size : ℕ) (main : List ℕ) (older newer : List Frame) (number : ℕ) → named_size main older newer ≡ size → 1 ≤ number
@@ -133,12 +95,6 @@ last_frame told frames page mark (suc place) bytes below last read =
     let no : suc other ≤ suc place = last.last (suc other) (omega arith) (frame_of (page_numbers frames) page other inside same) in
     omega (arith, no, above))
     (subst (λ (n : ℕ). IfSome (slice_get frames n) (λ frame. bytes ≡ page_of frame)) (one_back place) read)
-
--- the same of all frames
-pub none_of_all : (frames : List Frame) (page : ℕ) (below : List ℕ) → ((other : ℕ) → other ≤ length frames → IsFrameOf (page_numbers frames) page other → ⊥)
-    → page_after_frames frames page below ≡ below
-none_of_all frames page below none =
-    ap (λ (fs : List Frame). page_after_frames fs page below) (sym (take_all (length frames) frames (omega arith))) ∙ no_frame frames page (length frames) below none
 
 pub last_of_all : (told : History) (frames : List Frame) (page frame : ℕ) (bytes below : List ℕ) → IsLastFrame (page_numbers frames) page (length frames) frame
     → IsPageOf (Some told) frames frame bytes → bytes ≡ page_after_frames frames page below

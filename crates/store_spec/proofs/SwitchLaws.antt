@@ -1,5 +1,5 @@
 -- What an engine needs of a switch, by the switch rule and what the switch was answered.
-use Rattle.std.proofs.Common.{◌≡◌, ℕ, Bool, true, false, List, refl, sym, ap, subst, Contains, Option, None}
+use Rattle.std.proofs.Common.{◌≡◌, ℕ, Bool, true, false, List, sym, ap, subst, Contains, Option, None}
 use Rattle.std.specs.Prelude.{IfSome}
 use Rattle.std.proofs.lemmas.List.Elements.{All-contains}
 use Rattle.disk_face.specs.Steps.{History, reads}
@@ -9,10 +9,9 @@ use Rattle.crash_spec.specs.Opening.{Opening}
 use Rattle.engine_spec.specs.declared.pins.Pin.{Pin}
 use Rattle.engine_spec.specs.declared.pins.Readers.{Readers}
 use Rattle.engine_spec.specs.Leaves.{RecoversOneOf, if_told, may_recover}
-use Rattle.engine_spec.specs.TwoLogs.{IsStopPlace, may_switch, to_write}
-use Rattle.engine_spec.specs.TwoLogs.IsStopPlace.{AtHeader}
+use Rattle.engine_spec.specs.TwoLogs.{may_switch, to_write}
 use Rattle.wal_index.specs.Index.{Indexed}
-use Rattle.log_pair.specs.Pair.{PairView, other_number}
+use Rattle.log_pair.specs.Pair.{PairView}
 use Rattle.store_spec.specs.Store.{StoreData, KeptStop, current_read, newest_told, pin_told, store_state, two_logs}
 use Rattle.store_spec.specs.Pins.{PinHolds}
 use Rattle.store_spec.specs.Steps.{HasCleared, HasSwitched, gone_over, stopped}
@@ -20,7 +19,7 @@ use Rattle.store_spec.specs.Standing.{IsOpenedAt, IsLiveStore, StandsFrom}
 use Rattle.store_spec.proofs.Named.{AllName}
 use Rattle.store_spec.proofs.Switching.{allowed, moments, moments_so}
 use Rattle.store_spec.proofs.Switched.{FrontAlone, BothTold, switch_keeps}
-use Rattle.store_spec.proofs.SwitchIndex.{other_is_3, logs_to_write}
+use Rattle.store_spec.proofs.SwitchIndex.{logs_to_write}
 use Rattle.store_spec.proofs.SwitchLive.{live_over, live_torn}
 use Rattle.store_spec.proofs.SwitchOpened.{IsReady, files_ready, opened_over, opened_torn}
 use Rattle.store_spec.proofs.SwitchPins.{of_front, newest_over_told, newest_torn_told, pin_over_told, pin_torn_told}
@@ -84,9 +83,6 @@ module _ (kept : StoreData) (readers : Readers) (pins : List Pin) (salt2 : ℕ) 
 
     pub failed_logs : two_logs (stopped kept pair stop) ≡ two_logs kept
     failed_logs = ap (λ (p : PairView). two_logs (stopped kept p stop)) has.switches.becomes
-
-    pub failed_place : IsStopPlace kept.page_size (two_logs kept) readers kept.history (other_number kept.pair.current) 0 (two_logs (stopped kept pair stop))
-    failed_place = AtHeader may (other_is_3 kept.pair.current live.whole.pair.which) refl failed_logs
 
     pub failed_newest : newest_told (stopped kept pair stop) new ≡ newest_told kept old
     failed_newest = subst (λ (p : PairView). newest_told (stopped kept p stop) new ≡ newest_told kept old) (sym has.switches.becomes)

@@ -4,6 +4,7 @@ use Rattle.std.proofs.lemmas.List.Elements.{Contains-append_right}
 use Rattle.acts.specs.Pagers.{pins_of}
 use Rattle.acts.proofs.Answered.{rests_answered}
 use Rattle.acts.proofs.Growth.{grew_all, grew_on}
+use Rattle.acts.proofs.LoggedPlays.{plays_logged, runs_logged}
 use Rattle.acts.proofs.playing.play.Goals as goal
 
 pub returns-clause-grew : goal.returns-clause-grew
@@ -25,4 +26,15 @@ returns-clause-answers g c = λ here world rests quiet.
     rests_answered (g.E.EngineTells.opened c.args.engine.now) (g.E.EngineTells.state c.args.engine.now)
     (g.E.EngineTells.map_at c.args.engine.now) c.args.acts.now told.items (g.E.EngineTells.state c.end.new.engine) world here c.requires.range rests
     quiet said (plays (g.E.EngineTells.state c.end.new.engine) c.end.ensures.ends))
+    c.play_on-answers.ensures.plays
+
+pub returns-clause-logged : goal.returns-clause-logged
+returns-clause-logged g c = λ alone logged stands.
+    IfOk-weaker c.play_on-answers.result _ _
+    (λ told plays.
+    plays_logged (g.E.EngineTells.opened c.args.engine.now) (g.E.EngineTells.state c.args.engine.now)
+    (g.E.EngineTells.map_at c.args.engine.now) [] c.args.acts.now told.items (g.E.EngineTells.state c.end.new.engine) logged c.requires.range
+    (runs_logged (g.E.EngineTells.opened c.args.engine.now) (g.E.EngineTells.state c.args.engine.now) (g.E.EngineTells.map_at c.args.engine.now)
+    logged alone c.requires.always stands (λ opening is. g.E.EngineTells.recovers c.args.engine.now opening is))
+    (plays (g.E.EngineTells.state c.end.new.engine) c.end.ensures.ends))
     c.play_on-answers.ensures.plays

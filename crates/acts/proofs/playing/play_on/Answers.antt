@@ -46,7 +46,7 @@ loop-act-preserved g c =
           c.loop-act.pagers c.act.new.self c.args.acts.now c.loop-act.act-index (get_or c.args.acts.now c.loop-act.act-index (Begin 0)) c.in_ok-act.field-0 told within
           (get_or_default c.args.acts.now c.loop-act.act-index (Begin 0) (get_or c.args.acts.now c.loop-act.act-index (Begin 0)) within) before.opened acted.acts
           (keeps_next g.E.EngineTells.live g.E.EngineTells.map_at c.loop-act.engine c.act.new.engine c.loop-act.pagers c.act.new.self
-          (before.live [] c.requires.live) acted.maps) rest));
+          (before.live [] c.requires.live) acted.maps) (λ opening is. g.E.EngineTells.recovers c.act.new.engine opening (acted.opened opening is)) rest));
       grew = grew_on _ _ _ before.grew (acts_go (g.E.EngineTells.opened c.loop-act.engine) (g.E.EngineTells.state c.loop-act.engine)
           (g.E.EngineTells.state c.act.new.engine) (g.E.EngineTells.map_at c.loop-act.engine) (g.E.EngineTells.map_at c.act.new.engine) c.loop-act.pagers
           (get_or c.args.acts.now c.loop-act.act-index (Begin 0)) c.in_ok-act.field-0 c.act.new.self acted.acts).grew;

@@ -15,6 +15,10 @@ pub returns-in-Err-clause-moments : goal.returns-in-Err-clause-moments
 returns-in-Err-clause-moments g c told is may settle =
     quiet (size_opened c.args.setup.page_size (reads told)) (map_opened c.args.setup.page_size (reads told)) told _ _ is c.in-Err.ensures.stays.told may
 
+pub returns-then-is_mixed-clause-moments : goal.returns-then-is_mixed-clause-moments
+returns-then-is_mixed-clause-moments g c told is may settle =
+    quiet (size_opened c.args.setup.page_size (reads told)) (map_opened c.args.setup.page_size (reads told)) told _ _ is c.in-Ok.ensures.stays.told may
+
 pub returns-in-Ok-settle_pages-clause-whole : goal.returns-in-Ok-settle_pages-clause-whole
 returns-in-Ok-settle_pages-clause-whole g c =
     let seen = c.in-Ok.seen in
