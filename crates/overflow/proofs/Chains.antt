@@ -43,7 +43,7 @@ read_step has has_then reads now then done page same now_is then_is =
     ∙ (ap (λ (l : List ℕ). cond (has page) l (with_page l page)) now_is ∙ sym (read_more has reads done page)))
 
 -- a chain goes on from where following it comes to
-chain_rest : (usable last bound : ℕ) (shown : Shown) (first size : ℕ) (done : List ℕ) (next left : ℕ) (list : List ℕ)
+pub chain_rest : (usable last bound : ℕ) (shown : Shown) (first size : ℕ) (done : List ℕ) (next left : ℕ) (list : List ℕ)
     → Leads usable last shown first size done next left → IsChain usable bound shown first size list
     → (rest : List ℕ) × (list ≡ done ++ rest) × IsChain usable bound shown next left rest
 chain_rest usable last bound shown first size [] next left list leads chain = (list, refl, rw (leads.0, leads.1) chain)

@@ -1,111 +1,200 @@
 -- What is left of one page.
-use Rattle.std.proofs.Common.{◌≡◌, ℕ, ℤ, zero, suc, ◌<◌, ◌≤◌, ◌<ℤ◌, ◌≤ℤ◌, true, false, List, [], ◌∷◌, ◌++◌, length, refl, sym, ap, ◌∙◌, arith, append-nil}
+use Rattle.std.proofs.Common.{◌≡◌, ℕ, ℤ, zero, suc, ◌<◌, ◌≤◌, ◌<ℤ◌, ◌≤ℤ◌, Bool, true, false, List, [], ◌∷◌, ◌++◌, length, refl, sym, subst, ap, ◌∙◌, arith, append-nil, append_assoc}
 use Rattle.std.proofs.lemmas.Int.{ints}
-use Rattle.tree_read.proofs.Around.{weaker}
 use Rattle.std.specs.Prelude.{slice_index_or}
 use Rattle.node_spec.specs.Cells.{NodeCell}
 use Rattle.node_spec.specs.Kinds.{is_leaf}
 use Rattle.node_spec.specs.Nodes.{Node, no_cell}
 use Rattle.tree_spec.specs.Shown.{Shown}
-use Rattle.tree_spec.specs.Layout.{Each, Item}
-use Rattle.tree_spec.specs.Trees.{IsItem, IsChild, Content}
+use Rattle.tree_spec.specs.Layout.{Each, Item, chains}
+use Rattle.tree_spec.specs.Trees.{IsItem, AreUnder, AreDivided, IsOwn, IsChild, Content}
 use Rattle.tree_read.specs.Ways.{child_at}
-use Rattle.tree_scan.specs.Coming.{LeftItems, LeftUnder, Rests}
+use Rattle.tree_read.proofs.Around.{weaker}
+use Rattle.tree_read.proofs.Levels.{not_both}
+use Rattle.tree_scan.specs.Coming.{LeftItems, LeftUnder, LeftBehind, LeftFrom, Rests}
 
 -- the item at a place, and those behind it
-pub record FirstItem (usable last : ℕ) (shown : Shown) (place : ℕ) (cells : List NodeCell) (items : List Item) : Type 0 where
+pub record FirstItem (table : Bool) (usable last : ℕ) (shown : Shown) (place : ℕ) (cells : List NodeCell) (items : List Item) : Type 0 where
   pub item : Item
   pub rest : List Item
   pub items_are : items ≡ item ∷ rest
   pub is_item : IsItem usable last shown (slice_index_or cells place no_cell) item
-  pub left : LeftItems usable last shown (suc place) cells rest
+  pub left : LeftItems table usable last shown (suc place) cells rest
 
-pub first_item : (usable last : ℕ) (shown : Shown) (place : ℕ) (cells : List NodeCell) (items : List Item) → place < length cells
-    → LeftItems usable last shown place cells items → FirstItem usable last shown place cells items
-first_item usable last shown place [] items inside left = absurd (omega (arith, inside))
-first_item usable last shown zero (cell ∷ cells) [] inside never = absurd never
-first_item usable last shown zero (cell ∷ cells) (item ∷ items) inside left = record {
+pub first_item : (table : Bool) (usable last : ℕ) (shown : Shown) (place : ℕ) (cells : List NodeCell) (items : List Item) → place < length cells
+    → LeftItems table usable last shown place cells items → FirstItem table usable last shown place cells items
+first_item table usable last shown place [] items inside left = absurd (omega (arith, inside))
+first_item table usable last shown zero (cell ∷ cells) [] inside never = absurd never
+first_item table usable last shown zero (cell ∷ cells) (item ∷ items) inside left = record {
   item = item;
   rest = items;
   items_are = refl;
   is_item = left.0;
   left = left.2;
 }
-first_item usable last shown (suc place) (cell ∷ cells) items inside left =
-    let found = first_item usable last shown place cells items (omega (arith, inside)) left in
+first_item table usable last shown (suc place) (cell ∷ cells) items inside left =
+    let found = first_item table usable last shown place cells items (omega (arith, inside)) left in
     record { item = found.item; rest = found.rest; items_are = found.items_are; is_item = found.is_item; left = found.left }
 
-pub no_item : (usable last : ℕ) (shown : Shown) (place : ℕ) (cells : List NodeCell) (items : List Item) → length cells ≤ place
-    → LeftItems usable last shown place cells items → items ≡ []
-no_item usable last shown zero [] [] past left = refl
-no_item usable last shown zero [] (item ∷ items) past never = absurd never
-no_item usable last shown zero (cell ∷ cells) items past left = absurd (omega (arith, past))
-no_item usable last shown (suc place) [] items past left = left
-no_item usable last shown (suc place) (cell ∷ cells) items past left = no_item usable last shown place cells items (omega (arith, past)) left
+pub no_item : (table : Bool) (usable last : ℕ) (shown : Shown) (place : ℕ) (cells : List NodeCell) (items : List Item) → length cells ≤ place
+    → LeftItems table usable last shown place cells items → items ≡ []
+no_item table usable last shown zero [] [] past left = refl
+no_item table usable last shown zero [] (item ∷ items) past never = absurd never
+no_item table usable last shown zero (cell ∷ cells) items past left = absurd (omega (arith, past))
+no_item table usable last shown (suc place) [] items past left = left
+no_item table usable last shown (suc place) (cell ∷ cells) items past left = no_item table usable last shown place cells items (omega (arith, past)) left
 
 pub at_most : (low middle high : ℤ) → low ≤ℤ middle → middle <ℤ high → low ≤ℤ high
 at_most low middle high p q = omega (arith, ints)
 
 -- what is under the child at a place, and behind it
-pub record FirstChild (usable last : ℕ) (shown : Shown) (IsSub : ℕ → List ℕ → List Item → Type 0) (place : ℕ) (cells : List NodeCell) (right : ℕ) (items : List Item) : Type 0 where
-  pub own : List ℕ
+pub record FirstChild (table : Bool) (usable last : ℕ) (shown : Shown) (IsSub : ℕ → List ℕ → List Item → Type 0) (place : ℕ) (cells : List NodeCell) (right : ℕ) (own : List ℕ)
+    (items : List Item) : Type 0 where
+  pub under_own : List ℕ
+  pub rest_own : List ℕ
   pub under : List Item
   pub rest : List Item
+  pub own_is : own ≡ under_own ++ rest_own
   pub items_are : items ≡ under ++ rest
-  pub sub : IsSub (child_at cells right place) own under
-  pub left : LeftUnder usable last shown IsSub (suc place) cells right rest
-  pub over : (rowid : ℤ) → (place < length cells → rowid ≤ℤ (slice_index_or cells place no_cell).rowid) → Each (λ (item : Item). rowid ≤ℤ item.key) rest
+  pub sub : IsSub (child_at cells right place) under_own under
+  pub left : LeftBehind table usable last shown IsSub place cells right rest_own rest
+  pub over : table ≡ true → (rowid : ℤ) → (place < length cells → rowid ≤ℤ (slice_index_or cells place no_cell).rowid) → Each (λ (item : Item). rowid ≤ℤ item.key) rest
 
-pub first_child : (usable last : ℕ) (shown : Shown) (IsSub : ℕ → List ℕ → List Item → Type 0) (place : ℕ) (cells : List NodeCell) (right : ℕ) (items : List Item)
-    → place ≤ length cells → LeftUnder usable last shown IsSub place cells right items → FirstChild usable last shown IsSub place cells right items
-first_child usable last shown IsSub zero [] right items inside left = record {
-  own = left.0;
+over_cell : (table : Bool) (usable last : ℕ) (shown : Shown) (cell : NodeCell) (under middle rest : List Item) (rowid : ℤ) → table ≡ true → rowid ≤ℤ cell.rowid
+    → IsOwn table usable last shown cell middle → AreDivided table cell under rest → Each (λ (item : Item). rowid ≤ℤ item.key) (middle ++ rest)
+over_cell false usable last shown cell under middle rest rowid is most own divided = absurd (not_both false is refl)
+over_cell true usable last shown cell under middle rest rowid is most own divided =
+    subst (λ (l : List Item). Each (λ (item : Item). rowid ≤ℤ item.key) (l ++ rest)) (sym own)
+    (weaker (λ (item : Item). cell.rowid <ℤ item.key) (λ (item : Item). rowid ≤ℤ item.key) rest (λ item above. at_most rowid cell.rowid item.key most above) divided.1)
+
+pub first_child : (table : Bool) (usable last : ℕ) (shown : Shown) (IsSub : ℕ → List ℕ → List Item → Type 0) (place : ℕ) (cells : List NodeCell) (right : ℕ) (own : List ℕ)
+    (items : List Item) → place ≤ length cells → LeftUnder table usable last shown IsSub place cells right own items
+    → FirstChild table usable last shown IsSub place cells right own items
+first_child table usable last shown IsSub zero [] right own items inside left = record {
+  under_own = own;
+  rest_own = [];
   under = items;
   rest = [];
+  own_is = sym (append-nil own);
   items_are = sym (append-nil items);
-  sub = left.1;
-  left = refl;
-  over = λ rowid most. tt;
+  sub = left;
+  left = (refl, refl);
+  over = λ is rowid most. tt;
 }
-first_child usable last shown IsSub zero (cell ∷ cells) right items inside left = record {
-  own = left.1.under_own;
-  under = left.1.under;
-  rest = left.1.rest;
-  items_are = left.1.items_are ∙ ap (λ (l : List Item). left.1.under ++ (l ++ left.1.rest)) left.1.middle_is;
-  sub = left.1.sub;
-  left = (left.1.rest_own, left.1.others);
-  over = λ rowid most. weaker (λ (item : Item). cell.rowid <ℤ item.key) (λ (item : Item). rowid ≤ℤ item.key) left.1.rest
-      (λ item above. at_most rowid cell.rowid item.key (most (omega arith)) above) left.1.divided.1;
+first_child table usable last shown IsSub zero (cell ∷ cells) right own items inside left = record {
+  under_own = left.under_own;
+  rest_own = chains left.middle ++ left.rest_own;
+  under = left.under;
+  rest = left.middle ++ left.rest;
+  own_is = left.own_is;
+  items_are = left.items_are;
+  sub = left.sub;
+  left = record {
+    rest_own = left.rest_own;
+    middle = left.middle;
+    rest = left.rest;
+    own_is = refl;
+    items_are = refl;
+    middle_is = left.middle_is;
+    others = left.others;
+  };
+  over = λ is rowid most. over_cell table usable last shown cell left.under left.middle left.rest rowid is (most (omega arith)) left.middle_is left.divided;
 }
-first_child usable last shown IsSub (suc place) [] right items inside left = absurd (omega (arith, inside))
-first_child usable last shown IsSub (suc place) (cell ∷ cells) right items inside left =
-    let found = first_child usable last shown IsSub place cells right items (omega (arith, inside)) left in
+first_child table usable last shown IsSub (suc place) [] right own items inside left = absurd (omega (arith, inside))
+first_child table usable last shown IsSub (suc place) (cell ∷ cells) right own items inside left =
+    let found = first_child table usable last shown IsSub place cells right own items (omega (arith, inside)) left in
     record {
-      own = found.own;
+      under_own = found.under_own;
+      rest_own = found.rest_own;
       under = found.under;
       rest = found.rest;
+      own_is = found.own_is;
       items_are = found.items_are;
       sub = found.sub;
       left = found.left;
-      over = λ rowid most. found.over rowid (λ less. most (omega (arith, less)));
+      over = λ is rowid most. found.over is rowid (λ less. most (omega (arith, less)));
     }
 
-pub no_child : (usable last : ℕ) (shown : Shown) (IsSub : ℕ → List ℕ → List Item → Type 0) (place : ℕ) (cells : List NodeCell) (right : ℕ) (items : List Item)
-    → length cells < place → LeftUnder usable last shown IsSub place cells right items → items ≡ []
-no_child usable last shown IsSub zero cells right items past left = absurd (omega (arith, past))
-no_child usable last shown IsSub (suc place) [] right items past left = left
-no_child usable last shown IsSub (suc place) (cell ∷ cells) right items past left = no_child usable last shown IsSub place cells right items (omega (arith, past)) left
+-- in a table a cell lists nothing
+pub behind_under : (usable last : ℕ) (shown : Shown) (IsSub : ℕ → List ℕ → List Item → Type 0) (place : ℕ) (cells : List NodeCell) (right : ℕ) (own : List ℕ) (items : List Item)
+    → LeftBehind true usable last shown IsSub place cells right own items → LeftUnder true usable last shown IsSub (suc place) cells right own items
+behind_under usable last shown IsSub zero [] right own items left = left
+behind_under usable last shown IsSub zero (cell ∷ cells) right own items left =
+    subst (λ (o : List ℕ). AreUnder true usable last shown IsSub cells right o items) (sym (left.own_is ∙ ap (λ (m : List Item). chains m ++ left.rest_own) left.middle_is))
+    (subst (λ (l : List Item). AreUnder true usable last shown IsSub cells right left.rest_own l) (sym (left.items_are ∙ ap (λ (m : List Item). m ++ left.rest) left.middle_is)) left.others)
+behind_under usable last shown IsSub (suc place) [] right own items left = left
+behind_under usable last shown IsSub (suc place) (cell ∷ cells) right own items left = behind_under usable last shown IsSub place cells right own items left
 
--- a node of a tree, from its front
-pub from_front : (usable last : ℕ) (shown : Shown) (height : ℕ) (node : Node) (below : List ℕ) (items : List Item)
-    → Content true usable last shown height node below items → Rests usable last shown height node 0 items
-from_front usable last shown zero node below items content = (content.leaf, content.items_are)
-from_front usable last shown (suc height) node below items content = (content.inner, (below, content.under))
+-- in an index it lists its entry
+pub record FirstOwn (usable last : ℕ) (shown : Shown) (IsSub : ℕ → List ℕ → List Item → Type 0) (place : ℕ) (cells : List NodeCell) (right : ℕ) (own : List ℕ) (items : List Item) : Type 0 where
+  pub item : Item
+  pub rest_own : List ℕ
+  pub rest : List Item
+  pub own_is : own ≡ item.chain ++ rest_own
+  pub items_are : items ≡ item ∷ rest
+  pub is_item : IsItem usable last shown (slice_index_or cells place no_cell) item
+  pub left : LeftUnder false usable last shown IsSub (suc place) cells right rest_own rest
+
+pub first_own : (usable last : ℕ) (shown : Shown) (IsSub : ℕ → List ℕ → List Item → Type 0) (place : ℕ) (cells : List NodeCell) (right : ℕ) (own : List ℕ) (items : List Item)
+    → place < length cells → LeftBehind false usable last shown IsSub place cells right own items → FirstOwn usable last shown IsSub place cells right own items
+first_own usable last shown IsSub place [] right own items inside left = absurd (omega (arith, inside))
+first_own usable last shown IsSub zero (cell ∷ cells) right own items inside left =
+    let item = left.middle_is.0 in
+    let are = left.middle_is.1 in
+    record {
+      item = item;
+      rest_own = left.rest_own;
+      rest = left.rest;
+      own_is = left.own_is ∙ ap (λ (m : List Item). chains m ++ left.rest_own) are ∙ ap (λ (c : List ℕ). c ++ left.rest_own) (append-nil item.chain);
+      items_are = left.items_are ∙ ap (λ (m : List Item). m ++ left.rest) are;
+      is_item = left.middle_is.2;
+      left = left.others;
+    }
+first_own usable last shown IsSub (suc place) (cell ∷ cells) right own items inside left =
+    let found = first_own usable last shown IsSub place cells right own items (omega (arith, inside)) left in
+    record {
+      item = found.item;
+      rest_own = found.rest_own;
+      rest = found.rest;
+      own_is = found.own_is;
+      items_are = found.items_are;
+      is_item = found.is_item;
+      left = found.left;
+    }
 
 -- nothing is left
-pub rests_none : (usable last : ℕ) (shown : Shown) (height : ℕ) (node : Node) (place : ℕ) (items : List Item)
-    → (is_leaf node.kind ≡ true → length node.cells ≤ place) → (is_leaf node.kind ≡ false → length node.cells < place)
-    → Rests usable last shown height node place items → items ≡ []
-rests_none usable last shown zero node place items leaf inner rests = no_item usable last shown place node.cells items (leaf rests.0) rests.1
-rests_none usable last shown (suc height) node place items leaf inner rests =
-    no_child usable last shown (IsChild last shown (Content true usable last shown height)) place node.cells node.right items (inner rests.0) rests.1
+pub no_child : (table : Bool) (usable last : ℕ) (shown : Shown) (IsSub : ℕ → List ℕ → List Item → Type 0) (place : ℕ) (cells : List NodeCell) (right : ℕ) (own : List ℕ) (items : List Item)
+    → length cells < place → LeftUnder table usable last shown IsSub place cells right own items → (own ≡ []) × (items ≡ [])
+no_child table usable last shown IsSub zero cells right own items past left = absurd (omega (arith, past))
+no_child table usable last shown IsSub (suc place) [] right own items past left = left
+no_child table usable last shown IsSub (suc place) (cell ∷ cells) right own items past left =
+    no_child table usable last shown IsSub place cells right own items (omega (arith, past)) left
+
+no_own : (table : Bool) (usable last : ℕ) (shown : Shown) (IsSub : ℕ → List ℕ → List Item → Type 0) (place : ℕ) (cells : List NodeCell) (right : ℕ) (own : List ℕ) (items : List Item)
+    → length cells ≤ place → LeftBehind table usable last shown IsSub place cells right own items → (own ≡ []) × (items ≡ [])
+no_own table usable last shown IsSub zero [] right own items past left = left
+no_own table usable last shown IsSub zero (cell ∷ cells) right own items past left = absurd (omega (arith, past))
+no_own table usable last shown IsSub (suc place) [] right own items past left = left
+no_own table usable last shown IsSub (suc place) (cell ∷ cells) right own items past left =
+    no_own table usable last shown IsSub place cells right own items (omega (arith, past)) left
+
+pub rests_none : (table : Bool) (usable last : ℕ) (shown : Shown) (height : ℕ) (node : Node) (place : ℕ) (at_cell : Bool) (own : List ℕ) (items : List Item)
+    → (is_leaf node.kind ≡ true → at_cell ≡ true) → (at_cell ≡ true → length node.cells ≤ place) → (at_cell ≡ false → length node.cells < place)
+    → Rests table usable last shown height node place at_cell own items → (own ≡ []) × (items ≡ [])
+rests_none table usable last shown zero node place at_cell own items leaf cell child rests =
+    let none : items ≡ [] = no_item table usable last shown place node.cells items (cell (leaf rests.0)) rests.1 in
+    (rests.2 ∙ ap chains none, none)
+rests_none table usable last shown (suc height) node place true own items leaf cell child rests =
+    no_own table usable last shown (IsChild last shown (Content table usable last shown height)) place node.cells node.right own items (cell refl) rests.1
+rests_none table usable last shown (suc height) node place false own items leaf cell child rests =
+    no_child table usable last shown (IsChild last shown (Content table usable last shown height)) place node.cells node.right own items (child refl) rests.1
+
+-- a node of a tree, from its front
+pub from_front : (table : Bool) (usable last : ℕ) (shown : Shown) (height : ℕ) (node : Node) (at_cell : Bool) (below : List ℕ) (items : List Item) → at_cell ≡ is_leaf node.kind
+    → Content table usable last shown height node below items → Rests table usable last shown height node 0 at_cell below items
+from_front table usable last shown zero node at_cell below items is content = (content.leaf, content.items_are, content.below_is)
+from_front table usable last shown (suc height) node at_cell below items is content = (
+  content.inner,
+  subst (λ (b : Bool). LeftFrom b table usable last shown (IsChild last shown (Content table usable last shown height)) 0 node.cells node.right below items) (sym (is ∙ content.inner))
+      content.under,
+)

@@ -1,5 +1,6 @@
 pub mod Lasts
 pub mod Left
+pub mod Within
 pub mod Paths
 pub mod Shows
 pub mod Taking
@@ -7,3 +8,4 @@ pub mod Cursors
 pub mod Seeks
 pub mod Calls
 pub mod Soundness
+pub mod Reading

@@ -1,12 +1,12 @@
 -- Down to a rowid's place.
-use Rattle.std.proofs.Common.{◌≡◌, ℕ, ℤ, zero, suc, ◌<ℤ◌, ◌≤ℤ◌, true, false, List, [], ◌∷◌, ◌++◌, Some, refl, sym, subst, ap, ◌∙◌, arith, append_assoc}
+use Rattle.std.proofs.Common.{◌≡◌, ℕ, ℤ, zero, suc, ◌<ℤ◌, ◌≤ℤ◌, Bool, true, false, List, [], ◌∷◌, ◌++◌, Some, refl, sym, subst, ap, ◌∙◌, arith, append_assoc}
 use Rattle.std.specs.Prelude.{slice_index_or}
 use Rattle.std.proofs.lemmas.Int.{ints}
 use Rattle.node_spec.specs.Cells.{NodeCell}
 use Rattle.node_spec.specs.Kinds.{is_leaf}
 use Rattle.node_spec.specs.Nodes.{Node, no_cell}
 use Rattle.tree_spec.specs.Shown.{Shown}
-use Rattle.tree_spec.specs.Layout.{Each, Item}
+use Rattle.tree_spec.specs.Layout.{Each, Item, chains}
 use Rattle.tree_spec.specs.Trees.{AreItems, AreUnder, IsChild, Content}
 use Rattle.tree_spec.proofs.Lists.{each-append}
 use Rattle.tree_read.specs.Ways.{StandsAt, child_at}
@@ -14,10 +14,10 @@ use Rattle.tree_read.proofs.Around.{weaker, both_below, stands_behind, cell_abov
 use Rattle.tree_read.proofs.Leaves.{first_below}
 use Rattle.tree_read.proofs.Levels.{one_node, not_both}
 use Rattle.tree_scan.specs.declared.level.Level.{Level}
-use Rattle.tree_scan.specs.Coming.{LeftItems, LeftUnder, Rests, one_less}
+use Rattle.tree_scan.specs.Coming.{LeftItems, LeftUnder, LeftFrom, Rests, one_less, Comes, gone_below}
 use Rattle.tree_scan.specs.Seeking.{SoughtLast, Sought, Found}
 use Rattle.tree_scan.proofs.Left.{first_child, at_most}
-use Rattle.tree_scan.proofs.Paths.{further}
+use Rattle.tree_scan.proofs.Paths.{gone_left}
 
 most_below : (low middle high : ℤ) → low ≤ℤ middle → middle <ℤ high → low <ℤ high
 most_below low middle high p q = omega (arith, ints)
@@ -31,7 +31,7 @@ pub record Skipped (rowid : ℤ) (Left : List Item → Type 0) (items : List Ite
   pub under : Each (λ (item : Item). item.key <ℤ rowid) front
 
 pub record SkippedLeaf (usable last : ℕ) (shown : Shown) (rowid : ℤ) (place : ℕ) (cells : List NodeCell) (items : List Item) : Type 0 where
-  pub skipped : Skipped rowid (LeftItems usable last shown place cells) items
+  pub skipped : Skipped rowid (LeftItems true usable last shown place cells) items
   pub over : Each (λ (item : Item). rowid ≤ℤ item.key) skipped.rest
 
 skip_items : (usable last : ℕ) (shown : Shown) (rowid : ℤ) (place : ℕ) (cells : List NodeCell) (items : List Item) → AreItems true usable last shown cells items
@@ -68,7 +68,7 @@ skip_items usable last shown rowid (suc place) (cell ∷ cells) (item ∷ items)
     }
 
 skip_under : (usable last : ℕ) (shown : Shown) (IsSub : Subs) → ListsSome IsSub → (rowid : ℤ) (place : ℕ) (cells : List NodeCell) (right : ℕ) (own : List ℕ) (items : List Item)
-    → AreUnder true usable last shown IsSub cells right own items → StandsAt cells rowid place → Skipped rowid (LeftUnder usable last shown IsSub place cells right) items
+    → AreUnder true usable last shown IsSub cells right own items → StandsAt cells rowid place → Skipped rowid (λ (rest : List Item). (left : List ℕ) × LeftUnder true usable last shown IsSub place cells right left rest) items
 skip_under usable last shown IsSub some rowid zero cells right own items under stands =
     record { front = []; rest = items; items_are = refl; left = (own, under); under = tt }
 skip_under usable last shown IsSub some rowid (suc place) [] right own items under stands = absurd (omega (arith, stands.most))
@@ -94,8 +94,8 @@ skip_under usable last shown IsSub some rowid (suc place) (cell ∷ cells) right
 
 -- a node's place
 pub at_place : (usable last : ℕ) (shown : Shown) (height : ℕ) (rowid : ℤ) (level : Level) (node : Node) (below : List ℕ) (items : List Item) → shown.node level.page ≡ Some node
-    → Content true usable last shown height node below items → StandsAt node.cells rowid level.place → SoughtLast usable last shown height rowid level items
-at_place usable last shown zero rowid level node below items holds content stands =
+    → level.at_cell ≡ is_leaf node.kind → Content true usable last shown height node below items → StandsAt node.cells rowid level.place → SoughtLast usable last shown height rowid level items
+at_place usable last shown zero rowid level node below items holds at content stands =
     let found = skip_items usable last shown rowid level.place node.cells items content.items_are stands in
     record {
       front = found.skipped.front;
@@ -103,12 +103,13 @@ at_place usable last shown zero rowid level node below items holds content stand
       items_are = found.skipped.items_are;
       node = node;
       holds = holds;
-      left = (content.leaf, found.skipped.left);
+      rest_own = chains found.skipped.rest;
+      left = (content.leaf, found.skipped.left, refl);
       stands = stands;
       under = found.skipped.under;
       over = λ leaf. found.over;
     }
-at_place usable last shown (suc height) rowid level node below items holds content stands =
+at_place usable last shown (suc height) rowid level node below items holds at content stands =
     let found = skip_under usable last shown (IsChild last shown (Content true usable last shown height)) (child_some usable last shown height) rowid level.place node.cells node.right
     below items content.under stands in
     record {
@@ -117,7 +118,12 @@ at_place usable last shown (suc height) rowid level node below items holds conte
       items_are = found.items_are;
       node = node;
       holds = holds;
-      left = (content.inner, found.left);
+      rest_own = found.left.0;
+      left = (
+        content.inner,
+        subst (λ (b : Bool). LeftFrom b true usable last shown (IsChild last shown (Content true usable last shown height)) level.place node.cells node.right found.left.0 found.rest)
+            (sym (at ∙ content.inner)) found.left.1,
+      );
       stands = stands;
       under = found.under;
       over = λ leaf. absurd (not_both (is_leaf node.kind) leaf content.inner);
@@ -125,24 +131,28 @@ at_place usable last shown (suc height) rowid level node below items holds conte
 
 -- one level down
 pub sought_down : (usable last : ℕ) (shown : Shown) (height : ℕ) (rowid : ℤ) (above : List Level) (top child : Level) (node child_node : Node) (items : List Item)
-    → shown.node top.page ≡ Some node → is_leaf node.kind ≡ false → child.page ≡ child_at node.cells node.right top.place → shown.node child.page ≡ Some child_node
-    → StandsAt child_node.cells rowid child.place → Sought usable last shown height rowid above top items
-    → Sought usable last shown height rowid (above ++ further top ∷ []) child items
-sought_down usable last shown height rowid [] top child node child_node items holds inner is shows stands sought =
-    by_height height (subst (λ (n : Node). Rests usable last shown height n top.place sought.rest) same sought.left)
+    → shown.node top.page ≡ Some node → is_leaf node.kind ≡ false → top.at_cell ≡ false → child.page ≡ child_at node.cells node.right top.place → shown.node child.page ≡ Some child_node
+    → child.at_cell ≡ is_leaf child_node.kind → StandsAt child_node.cells rowid child.place → Sought usable last shown height rowid above top items
+    → Sought usable last shown height rowid (above ++ gone_below true top ∷ []) child items
+sought_down usable last shown height rowid [] top child node child_node items holds inner at is shows child_at_cell stands sought =
+    by_height height (subst (λ (n : Node). Rests true usable last shown height n top.place top.at_cell sought.rest_own sought.rest) same sought.left)
   where
     same : sought.node ≡ node
     same = one_node shown top.page sought.node node sought.holds holds
 
-    by_height : (height : ℕ) → Rests usable last shown height node top.place sought.rest → Sought usable last shown height rowid (further top ∷ []) child items
+    by_height : (height : ℕ) → Rests true usable last shown height node top.place top.at_cell sought.rest_own sought.rest
+        → Sought usable last shown height rowid (gone_below true top ∷ []) child items
     by_height zero rests = absurd (not_both (is_leaf node.kind) rests.0 inner)
     by_height (suc height) rests =
-        let at = subst (λ (n : Node). StandsAt n.cells rowid top.place) same sought.stands in
-        let first = first_child usable last shown (IsChild last shown (Content true usable last shown height)) top.place node.cells node.right sought.rest at.most rests.1 in
-        let sub : IsChild last shown (Content true usable last shown height) child.page first.own first.under =
-        subst (λ (p : ℕ). IsChild last shown (Content true usable last shown height) p first.own first.under) (sym is) first.sub in
-        let below = at_place usable last shown height rowid child sub.holds.node sub.holds.below first.under sub.holds.holds sub.holds.content
-        (subst (λ (n : Node). StandsAt n.cells rowid child.place) (one_node shown child.page child_node sub.holds.node shows sub.holds.holds) stands) in
+        let IsSub : ℕ → List ℕ → List Item → Type 0 = IsChild last shown (Content true usable last shown height) in
+        let place = subst (λ (n : Node). StandsAt n.cells rowid top.place) same sought.stands in
+        let left : LeftUnder true usable last shown IsSub top.place node.cells node.right sought.rest_own sought.rest =
+        subst (λ (b : Bool). LeftFrom b true usable last shown IsSub top.place node.cells node.right sought.rest_own sought.rest) at rests.1 in
+        let first = first_child true usable last shown IsSub top.place node.cells node.right sought.rest_own sought.rest place.most left in
+        let sub : IsSub child.page first.under_own first.under = subst (λ (p : ℕ). IsSub p first.under_own first.under) (sym is) first.sub in
+        let one = one_node shown child.page child_node sub.holds.node shows sub.holds.holds in
+        let below = at_place usable last shown height rowid child sub.holds.node sub.holds.below first.under sub.holds.holds (child_at_cell ∙ ap (λ (n : Node). is_leaf n.kind) one)
+        sub.holds.content (subst (λ (n : Node). StandsAt n.cells rowid child.place) one stands) in
         record {
           below = sought.front ++ first.under;
           rest = first.rest;
@@ -153,6 +163,7 @@ sought_down usable last shown height rowid [] top child node child_node items ho
             items_are = ap (λ (l : List Item). sought.front ++ l) below.items_are ∙ sym (append_assoc sought.front below.front below.rest);
             node = below.node;
             holds = below.holds;
+            rest_own = below.rest_own;
             left = below.left;
             stands = below.stands;
             under = each-append (λ (item : Item). item.key <ℤ rowid) sought.front below.front sought.under below.under;
@@ -160,18 +171,35 @@ sought_down usable last shown height rowid [] top child node child_node items ho
           };
           node = node;
           holds = holds;
-          left = (inner, first.left);
-          over = first.over rowid at.below;
+          rest_own = first.rest_own;
+          left = gone_left true usable last shown height top node first.rest_own first.rest inner at first.left;
+          over = first.over refl rowid place.below;
         }
-sought_down usable last shown height rowid (level ∷ above) top child node child_node items holds inner is shows stands sought = record {
+sought_down usable last shown height rowid (level ∷ above) top child node child_node items holds inner at is shows child_at_cell stands sought = record {
   below = sought.below;
   rest = sought.rest;
   items_are = sought.items_are;
-  sought = sought_down usable last shown (one_less height) rowid above top child node child_node sought.below holds inner is shows stands sought.sought;
+  sought = sought_down usable last shown (one_less height) rowid above top child node child_node sought.below holds inner at is shows child_at_cell stands sought.sought;
+  node = sought.node;
+  holds = sought.holds;
+  rest_own = sought.rest_own;
+  left = sought.left;
+  over = sought.over;
+}
+
+last_comes : (usable last : ℕ) (shown : Shown) (height : ℕ) (rowid : ℤ) (top : Level) (items : List Item) → (sought : SoughtLast usable last shown height rowid top items)
+    → Comes true usable last shown height (top ∷ []) sought.rest_own sought.rest
+last_comes usable last shown height rowid top items sought = record {
+  below_own = [];
+  rest_own = sought.rest_own;
+  below = [];
+  rest = sought.rest;
+  own_is = refl;
+  items_are = refl;
+  comes = (refl, refl);
   node = sought.node;
   holds = sought.holds;
   left = sought.left;
-  over = sought.over;
 }
 
 pub sought_found : (usable last : ℕ) (shown : Shown) (height : ℕ) (rowid : ℤ) (above : List Level) (top : Level) (node : Node) (items : List Item) → shown.node top.page ≡ Some node
@@ -180,7 +208,8 @@ sought_found usable last shown height rowid [] top node items holds leaf sought 
   front = sought.front;
   rest = sought.rest;
   items_are = sought.items_are;
-  comes = record { below = []; rest = sought.rest; items_are = refl; comes = refl; node = sought.node; holds = sought.holds; left = sought.left };
+  own = sought.rest_own;
+  comes = last_comes usable last shown height rowid top items sought;
   under = sought.under;
   over = sought.over (ap (λ (n : Node). is_leaf n.kind) (one_node shown top.page sought.node node sought.holds holds) ∙ leaf);
 }
@@ -190,9 +219,13 @@ sought_found usable last shown height rowid (level ∷ above) top node items hol
       front = found.front;
       rest = found.rest ++ sought.rest;
       items_are = sought.items_are ∙ ap (λ (l : List Item). l ++ sought.rest) found.items_are ∙ append_assoc found.front found.rest sought.rest;
+      own = found.own ++ sought.rest_own;
       comes = record {
+        below_own = found.own;
+        rest_own = sought.rest_own;
         below = found.rest;
         rest = sought.rest;
+        own_is = refl;
         items_are = refl;
         comes = found.comes;
         node = sought.node;
@@ -202,3 +235,27 @@ sought_found usable last shown height rowid (level ∷ above) top node items hol
       under = found.under;
       over = each-append (λ (item : Item). rowid ≤ℤ item.key) found.rest sought.rest found.over sought.over;
     }
+
+-- some items come from such a path
+pub sought_comes : (usable last : ℕ) (shown : Shown) (height : ℕ) (rowid : ℤ) (above : List Level) (top : Level) (items : List Item)
+    → Sought usable last shown height rowid above top items → (own : List ℕ) × ((rest : List Item) × Comes true usable last shown height (above ++ top ∷ []) own rest)
+sought_comes usable last shown height rowid [] top items sought = (sought.rest_own, (sought.rest, last_comes usable last shown height rowid top items sought))
+sought_comes usable last shown height rowid (level ∷ above) top items sought =
+    let found = sought_comes usable last shown (one_less height) rowid above top sought.below sought.sought in (
+      found.0 ++ sought.rest_own,
+      (
+        found.1.0 ++ sought.rest,
+        record {
+          below_own = found.0;
+          rest_own = sought.rest_own;
+          below = found.1.0;
+          rest = sought.rest;
+          own_is = refl;
+          items_are = refl;
+          comes = found.1.1;
+          node = sought.node;
+          holds = sought.holds;
+          left = sought.left;
+        },
+      ),
+    )

@@ -1,46 +1,50 @@
 -- Levels that have what the pages show.
-use Rattle.std.proofs.Common.{◌≡◌, ℕ, suc, ◌-◌, ◌<◌, ◌≤◌, ◌==◌, Bool, true, false, cond, List, [], ◌∷◌, ◌++◌, length, Some, Vec, Global, inl, inr, refl, sym, subst, ap, ◌∙◌, arith, ℤ, append_assoc}
-use Rattle.std.specs.Prelude.{slice_index_or, vec_len}
+use Rattle.std.proofs.Common.{◌≡◌, ℕ, ℤ, suc, ◌-◌, ◌<◌, ◌≤◌, ◌==◌, Bool, true, false, cond, List, [], ◌∷◌, ◌++◌, length, Some, Result, Ok, Err, Vec, Global, inl, inr, refl, sym, subst, ap, ◌∙◌, arith, append_assoc, append-nil}
+use Rattle.std.specs.Prelude.{◌⊎◌, slice_index_or, vec_len}
 use Rattle.std.proofs.lemmas.Bool.{cases_lt}
 use Rattle.std.proofs.lemmas.List.{length-append}
 use Rattle.page_spec.specs.View.{View}
 use Rattle.engine_spec.specs.declared.commits.FetchFault.{FetchFault}
 use Rattle.engine_spec.specs.declared.commits.FetchFault.TheVariants as fault
 use Rattle.page_face.specs.declared.pages_tells.PagesTells.{Ghosts}
-use Rattle.page_face.specs.Pages.{ReadsAtMost}
+use Rattle.page_face.specs.Pages.{ReadsAtMost, pages_read}
 use Rattle.node_spec.specs.Kinds.{is_leaf}
 use Rattle.node_spec.specs.Nodes.{Node}
 use Rattle.page_form.specs.Reading.{IsReadPage, Tells}
-use Rattle.tree_spec.specs.Layout.{Each}
+use Rattle.tree_spec.specs.Layout.{Each, Item}
 use Rattle.tree_spec.specs.Shown.{Shown}
 use Rattle.tree_spec.proofs.Lists.{each-append}
-use Rattle.overflow.specs.Following.{shown_over}
-use Rattle.tree_read.specs.Ways.{child_at, ShowsNode}
+use Rattle.overflow.specs.Following.{shown_over, all_read}
+use Rattle.tree_read.specs.Ways.{child_at, ShowsNode, StandsAt}
 use Rattle.tree_read.specs.Looking.{HasNode, BarsNode}
 use Rattle.tree_read.proofs.Around.{weaker, each_first, each_last}
-use Rattle.tree_read.proofs.Descents.{same_shown, rose_before}
+use Rattle.tree_read.proofs.Descents.{same_shown, rose_before, read_both}
 use Rattle.tree_read.proofs.Levels.{not_both}
 use Rattle.tree_scan.specs.declared.level.Level.{Level}
-use Rattle.tree_scan.specs.Coming.{Comes, IsSpent}
+use Rattle.tree_scan.specs.Coming.{Comes, IsSpent, gone_below}
 use Rattle.tree_scan.specs.Scanning.{IsLevel, AreLevels, KeepsComing, NamesNext, BreaksChild, IsBarred}
-use Rattle.tree_scan.proofs.Lasts.{at_last, count_last}
-use Rattle.tree_read.specs.Ways.{StandsAt}
 use Rattle.tree_scan.specs.Seeking.{Sought, IsSought, KeepsSought}
+use Rattle.tree_scan.specs.Reads.{NoOftener, LeavesAhead, HasWalked}
+use Rattle.tree_scan.proofs.Lasts.{at_last, count_last, same_last}
 use Rattle.tree_scan.proofs.Seeks.{sought_down}
-use Rattle.tree_scan.proofs.Lasts.{same_last}
-use Rattle.tree_scan.proofs.Paths.{IsDone, down, further}
+use Rattle.tree_scan.proofs.Within.{within_same, within_none, within_then}
+use Rattle.tree_scan.proofs.Paths.{IsDone, AtChild, go_child, down, down_reads, first_read}
 
-pub level_later : {P : Type 0} (pages : Ghosts P) (old now : P) → ReadsAtMost pages old now → (level : Level) → IsLevel pages old level → IsLevel pages now level
-level_later pages old now reading level is = record {
+pub level_later : {P : Type 0} (table : Bool) (pages : Ghosts P) (old now : P) → ReadsAtMost pages old now → (level : Level) → IsLevel table pages old level
+    → IsLevel table pages now level
+level_later table pages old now reading level is = record {
   node = is.node;
   read = subst (λ (u : ℕ). IsReadPage u level.bytes.items level.node is.node) (sym reading.edits.usable) is.read;
   shown = λ world told. ap (λ (s : Shown). s.node level.page) (same_shown pages old now reading world told) ∙ is.shown world (reading.edits.narrows world told);
   inside = is.inside;
+  leaf = is.leaf;
+  inner = is.inner;
 }
 
-pub levels_later : {P : Type 0} (pages : Ghosts P) (old now : P) (levels : List Level) → ReadsAtMost pages old now → AreLevels pages old levels → AreLevels pages now levels
-levels_later pages old now levels reading are =
-    (weaker (IsLevel pages old) (IsLevel pages now) levels (level_later pages old now reading) are.0, are.1)
+pub levels_later : {P : Type 0} (table : Bool) (pages : Ghosts P) (old now : P) (levels : List Level) → ReadsAtMost pages old now → AreLevels table pages old levels
+    → AreLevels table pages now levels
+levels_later table pages old now levels reading are =
+    (weaker (IsLevel table pages old) (IsLevel table pages now) levels (level_later table pages old now reading) are.0, are.1)
 
 -- a level of which something is left
 not_past : (b : Bool) (n place : ℕ) → b ≡ false → ((cond b n (suc n)) ≤ place → ⊥) → place ≤ n
@@ -51,52 +55,52 @@ pub not_all : (b : Bool) (n place : ℕ) → b ≡ true → ((cond b n (suc n)) 
 not_all true n place is never = elim (cases_lt place n) [ inl less ↦ less | inr most ↦ absurd (never most) ]
 not_all false n place is never = absurd (not_both false is refl)
 
-spent_leaf : (b : Bool) (n place : ℕ) → b ≡ true → (cond b n (suc n)) ≤ place → n ≤ place
-spent_leaf true n place is spent = spent
-spent_leaf false n place is spent = absurd (not_both false is refl)
+spent_cell : (b : Bool) (n place : ℕ) → b ≡ true → (cond b n (suc n)) ≤ place → n ≤ place
+spent_cell true n place is spent = spent
+spent_cell false n place is spent = absurd (not_both false is refl)
 
-spent_inner : (b : Bool) (n place : ℕ) → b ≡ false → (cond b n (suc n)) ≤ place → n < place
-spent_inner true n place is spent = absurd (not_both true refl is)
-spent_inner false n place is spent = spent
+spent_child : (b : Bool) (n place : ℕ) → b ≡ false → (cond b n (suc n)) ≤ place → n < place
+spent_child true n place is spent = absurd (not_both true refl is)
+spent_child false n place is spent = spent
 
 -- a level of which nothing is left, over one world
-pub done_level : {P : Type 0} (pages : Ghosts P) (old now : P) (world : View) → ReadsAtMost pages old now → pages.tells now world → (level : Level) → IsLevel pages now level → IsSpent level
-    → IsDone (shown_over pages old world) level
-done_level pages old now world reading told level is spent =
+pub done_level : {P : Type 0} (table : Bool) (pages : Ghosts P) (old now : P) (world : View) → ReadsAtMost pages old now → pages.tells now world → (level : Level)
+    → IsLevel table pages now level → IsSpent level → IsDone (shown_over pages old world) level
+done_level table pages old now world reading told level is spent =
     let t = is.read.tells in
-    let kind : is_leaf level.node.kind ≡ is_leaf is.node.kind = ap is_leaf t.kind in
     record {
       node = is.node;
       holds = ap (λ (s : Shown). s.node level.page) (sym (same_shown pages old now reading world told)) ∙ is.shown world told;
-      leaf = λ leaf. omega (arith, spent_leaf (is_leaf level.node.kind) (vec_len level.node.cells) level.place (kind ∙ leaf) spent, t.count);
-      inner = λ inner. omega (arith, spent_inner (is_leaf level.node.kind) (vec_len level.node.cells) level.place (kind ∙ inner) spent, t.count);
+      leaf = is.leaf;
+      cell = λ at. omega (arith, spent_cell level.at_cell (vec_len level.node.cells) level.place at spent, t.count);
+      child = λ at. omega (arith, spent_child level.at_cell (vec_len level.node.cells) level.place at spent, t.count);
     }
 
-pub done_levels : {P : Type 0} (pages : Ghosts P) (old now : P) (world : View) → ReadsAtMost pages old now → pages.tells now world → (levels : List Level) → Each (IsLevel pages now) levels
-    → Each IsSpent levels → Each (IsDone (shown_over pages old world)) levels
-done_levels pages old now world reading told [] are spent = tt
-done_levels pages old now world reading told (level ∷ levels) are spent =
-    (done_level pages old now world reading told level are.0 spent.0, done_levels pages old now world reading told levels are.1 spent.1)
+pub done_levels : {P : Type 0} (table : Bool) (pages : Ghosts P) (old now : P) (world : View) → ReadsAtMost pages old now → pages.tells now world → (levels : List Level)
+    → Each (IsLevel table pages now) levels → Each IsSpent levels → Each (IsDone (shown_over pages old world)) levels
+done_levels table pages old now world reading told [] are spent = tt
+done_levels table pages old now world reading told (level ∷ levels) are spent =
+    (done_level table pages old now world reading told level are.0 spent.0, done_levels table pages old now world reading told levels are.1 spent.1)
 
 -- The last level.
-pub record TopIs {P : Type 0} (pages : Ghosts P) (now : P) (levels : List Level) (top : Level) : Type 0 where
+pub record TopIs {P : Type 0} (table : Bool) (pages : Ghosts P) (now : P) (levels : List Level) (top : Level) : Type 0 where
   pub above : List Level
   pub are : levels ≡ above ++ top ∷ []
-  pub others : Each (IsLevel pages now) above
-  pub is_level : IsLevel pages now top
+  pub others : Each (IsLevel table pages now) above
+  pub is_level : IsLevel table pages now top
 
-pub top_of : {P : Type 0} (pages : Ghosts P) (now : P) (levels above : List Level) (top at : Level) (depth : ℕ) → Each (IsLevel pages now) levels → levels ≡ above ++ top ∷ []
-    → depth ≡ length levels → at ≡ slice_index_or levels (depth - 1) at → (at ≡ top) × TopIs pages now levels at
-top_of pages now levels above top at depth all are count is =
+pub top_of : {P : Type 0} (table : Bool) (pages : Ghosts P) (now : P) (levels above : List Level) (top at : Level) (depth : ℕ) → Each (IsLevel table pages now) levels
+    → levels ≡ above ++ top ∷ [] → depth ≡ length levels → at ≡ slice_index_or levels (depth - 1) at → (at ≡ top) × TopIs table pages now levels at
+top_of table pages now levels above top at depth all are count is =
     let place : depth - 1 ≡ length above = omega (arith, count, count_last levels above top are) in
     let same : at ≡ top = is ∙ at_last levels above top at [] (depth - 1) are place in
-    let parts : Each (IsLevel pages now) (above ++ top ∷ []) = subst (Each (IsLevel pages now)) are all in (
+    let parts : Each (IsLevel table pages now) (above ++ top ∷ []) = subst (Each (IsLevel table pages now)) are all in (
       same,
       record {
         above = above;
         are = are ∙ ap (λ (l : Level). above ++ l ∷ []) (sym same);
-        others = each_first (IsLevel pages now) above (top ∷ []) parts;
-        is_level = subst (IsLevel pages now) (sym same) (each_last (IsLevel pages now) above (top ∷ []) parts).0;
+        others = each_first (IsLevel table pages now) above (top ∷ []) parts;
+        is_level = subst (IsLevel table pages now) (sym same) (each_last (IsLevel table pages now) above (top ∷ []) parts).0;
       },
     )
 
@@ -105,38 +109,45 @@ pub record Inner {P : Type 0} (pages : Ghosts P) (now : P) (level : Level) (chil
   pub node : Node
   pub shown : (world : View) → pages.tells now world → (shown_over pages now world).node level.page ≡ Some node
   pub inner : is_leaf node.kind ≡ false
+  pub at : level.at_cell ≡ false
   pub inside : level.place ≤ length node.cells
   pub decoded : vec_len level.node.cells ≡ length node.cells
   pub child_is : child ≡ child_at node.cells node.right level.place
 
-pub inner_of : {P : Type 0} (pages : Ghosts P) (now : P) (level : Level) (usable child : ℕ) (bytes : List ℕ) → usable ≡ pages.usable now → bytes ≡ level.bytes.items → IsLevel pages now level
-    → is_leaf level.node.kind ≡ false → (IsSpent level → ⊥)
+no_leaf : (leaf at : Bool) → (leaf ≡ true → at ≡ true) → at ≡ false → leaf ≡ false
+no_leaf true at is child = absurd (not_both at (is refl) child)
+no_leaf false at is child = refl
+
+pub inner_of : {P : Type 0} (table : Bool) (pages : Ghosts P) (now : P) (level : Level) (usable child : ℕ) (bytes : List ℕ) → usable ≡ pages.usable now → bytes ≡ level.bytes.items
+    → IsLevel table pages now level → level.at_cell ≡ false → (IsSpent level → ⊥)
     → ((node : Node) → IsReadPage usable bytes level.node node → child ≡ child_at node.cells node.right level.place) → Inner pages now level child
-inner_of pages now level usable child bytes is same level_is inner left names =
+inner_of table pages now level usable child bytes is same level_is at left names =
     let t = level_is.read.tells in
     record {
       node = level_is.node;
       shown = level_is.shown;
-      inner = ap is_leaf (sym t.kind) ∙ inner;
-      inside = omega (arith, not_past (is_leaf level.node.kind) (vec_len level.node.cells) level.place inner left, t.count);
+      inner = no_leaf (is_leaf level_is.node.kind) level.at_cell level_is.leaf at;
+      at = at;
+      inside = omega (arith, not_past level.at_cell (vec_len level.node.cells) level.place at left, t.count);
       decoded = t.count;
       child_is = names level_is.node (subst (λ (b : List ℕ). IsReadPage usable b level.node level_is.node) (sym same)
           (subst (λ (u : ℕ). IsReadPage u level.bytes.items level.node level_is.node) (sym is) level_is.read));
     }
 
 -- why the child that comes next isn't gone to
-pub names_next : {P : Type 0} (pages : Ghosts P) (old : P) (levels : List Level) (top : Level) (child : ℕ) → TopIs pages old levels top → Inner pages old top child
+pub names_next : {P : Type 0} (pages : Ghosts P) (old : P) (levels : List Level) (top : Level) (child : ℕ) → TopIs true pages old levels top → Inner pages old top child
     → (world : View) → pages.tells old world → NamesNext (shown_over pages old world) levels top child
 names_next pages old levels top child is inner world told = record {
   is_last = record { above = is.above; levels_are = is.are };
   node = inner.node;
   holds = inner.shown world told;
   inner = inner.inner;
+  under = inner.at;
   inside = inner.inside;
   child_is = inner.child_is;
 }
 
-pub child_barred : {P : Type 0} (pages : Ghosts P) (old new : P) (levels : List Level) (top : Level) (child depth : ℕ) (why : FetchFault) → TopIs pages old levels top
+pub child_barred : {P : Type 0} (pages : Ghosts P) (old new : P) (levels : List Level) (top : Level) (child depth : ℕ) (why : FetchFault) → TopIs true pages old levels top
     → Inner pages old top child → ReadsAtMost pages old new → depth ≡ length levels → BarsNode pages old true child depth new why
     → IsBarred pages old new (λ (shown : Shown). BreaksChild (pages.last_page old) shown levels) why
 child_barred pages old new levels top child depth fault.Disk is inner reading deep bars = bars
@@ -160,24 +171,28 @@ to_now pages old now F world reading told is =
     subst (λ (s : Shown). F (pages.usable now) s) (sym (same_shown pages old now reading world told)) (subst (λ (u : ℕ). F u (shown_over pages old world)) (sym reading.edits.usable) is)
 
 -- the level of a page that was read
-pub fresh_level : {P : Type 0} (pages : Ghosts P) (old new : P) (level : Level) (page depth : ℕ) → level.page ≡ page
+pub fresh_level : {P : Type 0} (table : Bool) (pages : Ghosts P) (old new : P) (level : Level) (page depth : ℕ) → level.page ≡ page → level.at_cell ≡ is_leaf level.node.kind
     → ((node : Node) → IsReadPage (pages.usable old) level.bytes.items level.node node → level.place ≤ length node.cells) → ReadsAtMost pages old new
-    → HasNode pages old true page depth level.bytes.items level.node new → IsLevel pages new level
-fresh_level pages old new level page depth is place reading has = record {
-  node = has.node;
-  read = record { first = page == 1; tells = subst (λ (u : ℕ). Tells u (page == 1) level.bytes.items level.node has.node) (sym reading.edits.usable) has.tells };
-  shown = λ world told. ap (λ (s : Shown). s.node level.page) (same_shown pages old new reading world told)
-      ∙ ap (λ (p : ℕ). (shown_over pages old world).node p) is ∙ has.shown world told;
-  inside = omega (arith, place has.node (record { first = page == 1; tells = has.tells }));
-}
+    → HasNode pages old table page depth level.bytes.items level.node new → IsLevel table pages new level
+fresh_level table pages old new level page depth is at place reading has =
+    let same : level.at_cell ≡ is_leaf has.node.kind = at ∙ ap is_leaf has.tells.kind in
+    record {
+      node = has.node;
+      read = record { first = page == 1; tells = subst (λ (u : ℕ). Tells u (page == 1) level.bytes.items level.node has.node) (sym reading.edits.usable) has.tells };
+      shown = λ world told. ap (λ (s : Shown). s.node level.page) (same_shown pages old new reading world told)
+          ∙ ap (λ (p : ℕ). (shown_over pages old world).node p) is ∙ has.shown world told;
+      inside = omega (arith, place has.node (record { first = page == 1; tells = has.tells }));
+      leaf = λ leaf. same ∙ leaf;
+      inner = λ table inner. same ∙ inner;
+    }
 
 -- something is left of a child
-pub fresh_left : {P : Type 0} (pages : Ghosts P) (old new : P) (level : Level) (page depth : ℕ) → 2 ≤ page → 1 ≤ depth → level.place ≡ 0
-    → HasNode pages old true page depth level.bytes.items level.node new → IsSpent level → ⊥
-fresh_left pages old new level page depth low deep front has spent = elim has.may.enough [
+pub fresh_left : {P : Type 0} (table : Bool) (pages : Ghosts P) (old new : P) (level : Level) (page depth : ℕ) → 2 ≤ page → 1 ≤ depth → level.place ≡ 0
+    → HasNode pages old table page depth level.bytes.items level.node new → IsSpent level → ⊥
+fresh_left table pages old new level page depth low deep front has spent = elim has.may.enough [
   | inl first ↦ omega (arith, first, low)
   | inr (inl root) ↦ omega (arith, root.0, deep)
-  | inr (inr some) ↦ by_kind (is_leaf level.node.kind) (vec_len level.node.cells) (omega (arith, has.tells.count, some)) spent
+  | inr (inr some) ↦ by_kind level.at_cell (vec_len level.node.cells) (omega (arith, has.tells.count, some)) spent
 ]
   where
     by_kind : (b : Bool) (n : ℕ) → 1 ≤ n → (cond b n (suc n)) ≤ level.place → ⊥
@@ -185,54 +200,150 @@ fresh_left pages old new level page depth low deep front has spent = elim has.ma
     by_kind false n some spent = omega (arith, some, spent, front)
 
 -- of an interior one at any place
-pub inner_left : {P : Type 0} (pages : Ghosts P) (old new : P) (level : Level) (page depth : ℕ)
+pub inner_left : {P : Type 0} (table : Bool) (pages : Ghosts P) (old new : P) (level : Level) (page depth : ℕ)
     → ((node : Node) → IsReadPage (pages.usable old) level.bytes.items level.node node → level.place ≤ length node.cells)
-    → HasNode pages old true page depth level.bytes.items level.node new → is_leaf level.node.kind ≡ false → IsSpent level → ⊥
-inner_left pages old new level page depth place has inner spent =
-    omega (arith, spent_inner (is_leaf level.node.kind) (vec_len level.node.cells) level.place inner spent, place has.node (record { first = page == 1; tells = has.tells }), has.tells.count)
+    → HasNode pages old table page depth level.bytes.items level.node new → level.at_cell ≡ false → IsSpent level → ⊥
+inner_left table pages old new level page depth place has at spent =
+    omega (arith, spent_child level.at_cell (vec_len level.node.cells) level.place at spent, place has.node (record { first = page == 1; tells = has.tells }), has.tells.count)
+
+-- a level whose child was gone to
+gone_level : {P : Type 0} (table : Bool) (pages : Ghosts P) (now : P) (level : Level) (page : ℕ) → (inner : Inner pages now level page) → (is : IsLevel table pages now level)
+    → IsLevel table pages now (gone_below table level)
+gone_level true pages now level page inner is = record {
+  node = is.node;
+  read = is.read;
+  shown = is.shown;
+  inside = omega (arith, inner.inside, inner.decoded, is.read.tells.count);
+  leaf = is.leaf;
+  inner = is.inner;
+}
+gone_level false pages now level page inner is = record {
+  node = is.node;
+  read = is.read;
+  shown = is.shown;
+  inside = is.inside;
+  leaf = λ leaf. refl;
+  inner = λ never. absurd (not_both false never refl);
+}
+
+inner_later : {P : Type 0} (pages : Ghosts P) (old now : P) (level : Level) (page : ℕ) → ReadsAtMost pages old now → Inner pages old level page → Inner pages now level page
+inner_later pages old now level page reading inner = record {
+  node = inner.node;
+  shown = λ world told. ap (λ (s : Shown). s.node level.page) (same_shown pages old now reading world told) ∙ inner.shown world (reading.edits.narrows world told);
+  inner = inner.inner;
+  at = inner.at;
+  inside = inner.inside;
+  decoded = inner.decoded;
+  child_is = inner.child_is;
+}
 
 -- levels with a child below them
-pub with_child : {P : Type 0} (pages : Ghosts P) (old new : P) (levels levels_then : List Level) (top child : Level) (page depth : ℕ) → ReadsAtMost pages old new
-    → (is : TopIs pages old levels top) → Inner pages old top page → depth ≡ length levels → child.page ≡ page
+pub with_child : {P : Type 0} (table : Bool) (pages : Ghosts P) (old new : P) (levels levels_then : List Level) (top child : Level) (page depth : ℕ) → ReadsAtMost pages old new
+    → (is : TopIs table pages old levels top) → Inner pages old top page → depth ≡ length levels → child.page ≡ page → child.at_cell ≡ is_leaf child.node.kind
     → ((node : Node) → IsReadPage (pages.usable old) child.bytes.items child.node node → child.place ≤ length node.cells)
-    → HasNode pages old true page depth child.bytes.items child.node new → levels_then ≡ is.above ++ further top ∷ child ∷ [] → AreLevels pages new levels_then
-with_child pages old new levels levels_then top child page depth reading is inner deep page_is place has are =
-    let top_then : IsLevel pages new top = level_later pages old new reading top is.is_level in (
-      subst (Each (IsLevel pages new)) (sym are) (each-append (IsLevel pages new) is.above (further top ∷ child ∷ [])
-          (weaker (IsLevel pages old) (IsLevel pages new) is.above (level_later pages old new reading) is.others) (
-            record { node = top_then.node; read = top_then.read; shown = top_then.shown; inside = omega (arith, inner.inside, inner.decoded, top_then.read.tells.count) },
-            (fresh_level pages old new child page depth page_is place reading has, tt),
-          )),
-      omega (arith, ap length are, length-append is.above (further top ∷ child ∷ []), deep, has.may.depth, count_last levels is.above top is.are),
-    )
+    → HasNode pages old table page depth child.bytes.items child.node new → levels_then ≡ is.above ++ gone_below table top ∷ child ∷ [] → AreLevels table pages new levels_then
+with_child table pages old new levels levels_then top child page depth reading is inner deep page_is at place has are = (
+  subst (Each (IsLevel table pages new)) (sym are) (each-append (IsLevel table pages new) is.above (gone_below table top ∷ child ∷ [])
+      (weaker (IsLevel table pages old) (IsLevel table pages new) is.above (level_later table pages old new reading) is.others) (
+        gone_level table pages new top page (inner_later pages old new top page reading inner) (level_later table pages old new reading top is.is_level),
+        (fresh_level table pages old new child page depth page_is at place reading has, tt),
+      )),
+  omega (arith, ap length are, length-append is.above (gone_below table top ∷ child ∷ []), deep, has.may.depth, count_last levels is.above top is.are),
+)
 
-pub child_comes : {P : Type 0} (pages : Ghosts P) (old new : P) (levels levels_then : List Level) (top child : Level) (page : ℕ) → ReadsAtMost pages old new
-    → (is : TopIs pages old levels top) → Inner pages old top page → child.page ≡ page → child.place ≡ 0 → levels_then ≡ is.above ++ further top ∷ child ∷ []
-    → KeepsComing pages old levels levels_then new
-child_comes pages old new levels levels_then top child page reading is inner page_is front are = λ world told bound height items comes.
-    let before = reading.edits.narrows world told in
-    subst (λ (l : List Level). Comes (pages.usable old) bound (shown_over pages old world) height l items) (sym are)
-    (down (pages.usable old) bound (shown_over pages old world) height is.above top child inner.node items (inner.shown world before) inner.inner inner.inside
-    (page_is ∙ inner.child_is) front
-    (subst (λ (l : List Level). Comes (pages.usable old) bound (shown_over pages old world) height l items) is.are comes))
+-- the child that comes next, over one world
+child_of : {P : Type 0} (table : Bool) (pages : Ghosts P) (old new : P) (levels levels_then : List Level) (top child : Level) (page depth : ℕ) → ReadsAtMost pages old new
+    → (is : TopIs table pages old levels top) → Inner pages old top page → child.page ≡ page → (has : HasNode pages old table page depth child.bytes.items child.node new)
+    → levels_then ≡ is.above ++ gone_below table top ∷ child ∷ [] → (world : View) → pages.tells new world → (bound height : ℕ) (own : List ℕ) (items : List Item)
+    → Comes table (pages.usable old) bound (shown_over pages old world) height levels own items
+    → AtChild table (pages.usable old) bound (shown_over pages old world) height levels_then child has.node own items
+child_of table pages old new levels levels_then top child page depth reading is inner page_is has are world told bound height own items comes =
+    let usable = pages.usable old in
+    let shown = shown_over pages old world in
+    subst (λ (l : List Level). AtChild table usable bound shown height l child has.node own items) (sym are)
+    (go_child table usable bound shown height is.above top child inner.node has.node own items (inner.shown world (reading.edits.narrows world told)) inner.inner inner.at inner.inside
+    (page_is ∙ inner.child_is) (ap (λ (p : ℕ). shown.node p) page_is ∙ has.shown world told)
+    (subst (λ (l : List Level). Comes table usable bound shown height l own items) is.are comes))
+
+pub child_comes : {P : Type 0} (pages : Ghosts P) (old new : P) (levels levels_then : List Level) (top child : Level) (page depth : ℕ) → ReadsAtMost pages old new
+    → (is : TopIs true pages old levels top) → Inner pages old top page → child.page ≡ page → child.at_cell ≡ is_leaf child.node.kind → child.place ≡ 0
+    → HasNode pages old true page depth child.bytes.items child.node new → levels_then ≡ is.above ++ gone_below true top ∷ child ∷ [] → KeepsComing pages old levels levels_then new
+child_comes pages old new levels levels_then top child page depth reading is inner page_is at front has are = λ world told bound height own items comes.
+    down true (pages.usable old) bound (shown_over pages old world) height levels_then child has.node own items front (at ∙ ap is_leaf has.tells.kind)
+    (child_of true pages old new levels levels_then top child page depth reading is inner page_is has are world told bound height own items comes)
+
+-- and what it reads
+pub child_walked : {P : Type 0} (pages : Ghosts P) (old new : P) (levels levels_then : List Level) (top child : Level) (page depth : ℕ) → ReadsAtMost pages old new
+    → (is : TopIs true pages old levels top) → Inner pages old top page → child.page ≡ page → child.at_cell ≡ is_leaf child.node.kind
+    → ((node : Node) → IsReadPage (pages.usable old) child.bytes.items child.node node → child.place ≤ length node.cells)
+    → HasNode pages old true page depth child.bytes.items child.node new → levels_then ≡ is.above ++ gone_below true top ∷ child ∷ []
+    → HasWalked {T = Unit {0}} pages old levels levels_then (Ok tt) new
+child_walked pages old new levels levels_then top child page depth reading is inner page_is at place has are = record {
+  kept = page ∷ [];
+  again = [];
+  read = has.read;
+  well = refl;
+  of = λ world told bound height own items comes.
+      subst (λ (p : ℕ). LeavesAhead true (pages.usable old) bound (shown_over pages old world) height levels_then own (p ∷ []) []) page_is
+      (down_reads true (pages.usable old) bound (shown_over pages old world) height levels_then child has.node own items
+      (place has.node (record { first = page == 1; tells = has.tells })) (at ∙ ap is_leaf has.tells.kind)
+      (child_of true pages old new levels levels_then top child page depth reading is inner page_is has are world told bound height own items comes));
+}
+
+-- where it fails it read nothing
+pub unread : {P : Type 0} (pages : Ghosts P) (old new : P) (levels : List Level) (why : FetchFault) → pages.reads new ≡ pages.reads old
+    → HasWalked {T = Unit {0}} pages old levels levels (Err why) new
+unread pages old new levels why none = record {
+  kept = [];
+  again = [];
+  read = none;
+  well = tt;
+  of = λ world told bound height own items comes. record { own_then = own; items_then = items; comes = comes; within = within_same own; next = within_none own };
+}
+
+-- or the child's page
+next_page : {P : Type 0} (pages : Ghosts P) (old new : P) (levels : List Level) (top : Level) (page : ℕ) → ReadsAtMost pages old new → TopIs true pages old levels top
+    → Inner pages old top page → (world : View) → pages.tells new world → (bound height : ℕ) (own : List ℕ) (items : List Item)
+    → Comes true (pages.usable old) bound (shown_over pages old world) height levels own items → NoOftener (page ∷ []) own
+next_page pages old new levels top page reading is inner world told bound height own items comes =
+    first_read true (pages.usable old) bound (shown_over pages old world) height is.above top inner.node page own items (inner.shown world (reading.edits.narrows world told)) inner.inner inner.at
+    inner.inside inner.child_is (subst (λ (l : List Level). Comes true (pages.usable old) bound (shown_over pages old world) height l own items) is.are comes)
+
+pub child_failed : {P : Type 0} (pages : Ghosts P) (old new : P) (levels : List Level) (top : Level) (page : ℕ) (why : FetchFault) → ReadsAtMost pages old new
+    → TopIs true pages old levels top → Inner pages old top page → (pages.reads new ≡ pages.reads old) ⊎ (pages.reads new ≡ pages_read pages old page)
+    → HasWalked {T = Unit {0}} pages old levels levels (Err why) new
+child_failed pages old new levels top page why reading is inner (inl none) = unread pages old new levels why none
+child_failed pages old new levels top page why reading is inner (inr one) = record {
+  kept = [];
+  again = page ∷ [];
+  read = one;
+  well = tt;
+  of = λ world told bound height own items comes. record {
+    own_then = own;
+    items_then = items;
+    comes = comes;
+    within = within_same own;
+    next = next_page pages old new levels top page reading is inner world told bound height own items comes;
+  };
+}
 
 pub child_sought : {P : Type 0} (pages : Ghosts P) (old new : P) (rowid : ℤ) (levels levels_then : List Level) (top child : Level) (page depth : ℕ) → ReadsAtMost pages old new
-    → (is : TopIs pages old levels top) → Inner pages old top page → child.page ≡ page
+    → (is : TopIs true pages old levels top) → Inner pages old top page → child.page ≡ page → child.at_cell ≡ is_leaf child.node.kind
     → ((node : Node) → IsReadPage (pages.usable old) child.bytes.items child.node node → StandsAt node.cells rowid child.place)
     → HasNode pages old true page depth child.bytes.items child.node new
-    → ((above : List Level) (top : Level) → levels ≡ above ++ top ∷ [] → levels_then ≡ above ++ further top ∷ child ∷ []) → KeepsSought pages old rowid levels levels_then new
-child_sought pages old new rowid levels levels_then top child page depth reading is inner page_is stands has attached = λ world told bound height items sought.
+    → ((above : List Level) (top : Level) → levels ≡ above ++ top ∷ [] → levels_then ≡ above ++ gone_below true top ∷ child ∷ []) → KeepsSought pages old rowid levels levels_then new
+child_sought pages old new rowid levels levels_then top child page depth reading is inner page_is at_cell stands has attached = λ world told bound height items sought.
     let usable = pages.usable old in
     let shown = shown_over pages old world in
     let same : sought.top ≡ top = same_last sought.above is.above sought.top top (sym sought.are ∙ is.are) in
     let at : Sought usable bound shown height rowid sought.above top items = subst (λ (t : Level). Sought usable bound shown height rowid sought.above t items) same sought.sought in
     let are : levels ≡ sought.above ++ top ∷ [] = sought.are ∙ ap (λ (t : Level). sought.above ++ t ∷ []) same in
     record {
-      above = sought.above ++ further top ∷ [];
+      above = sought.above ++ gone_below true top ∷ [];
       top = child;
-      are = attached sought.above top are ∙ sym (append_assoc sought.above (further top ∷ []) (child ∷ []));
-      sought = sought_down usable bound shown height rowid sought.above top child inner.node has.node items (inner.shown world (reading.edits.narrows world told)) inner.inner
-          (page_is ∙ inner.child_is) (ap (λ (p : ℕ). shown.node p) page_is ∙ has.shown world told)
+      are = attached sought.above top are ∙ sym (append_assoc sought.above (gone_below true top ∷ []) (child ∷ []));
+      sought = sought_down usable bound shown height rowid sought.above top child inner.node has.node items (inner.shown world (reading.edits.narrows world told)) inner.inner inner.at
+          (page_is ∙ inner.child_is) (ap (λ (p : ℕ). shown.node p) page_is ∙ has.shown world told) (at_cell ∙ ap is_leaf has.tells.kind)
           (stands has.node (record { first = page == 1; tells = has.tells })) at;
     }
 
@@ -248,10 +359,11 @@ count_levels levels = levels.ok.0
 
 pub keeps_join : {P : Type 0} (pages : Ghosts P) (old now then : P) (a b c : List Level) → ReadsAtMost pages old now → ReadsAtMost pages now then
     → KeepsComing pages old a b now → KeepsComing pages now b c then → KeepsComing pages old a c then
-keeps_join pages old now then a b c reading more one two = λ world told bound height items comes.
+keeps_join pages old now then a b c reading more one two = λ world told bound height own items comes.
     let before = more.edits.narrows world told in
-    to_old pages old now (λ (u : ℕ) (s : Shown). Comes u bound s height c items) world reading before
-    (two world told bound height items (to_now pages old now (λ (u : ℕ) (s : Shown). Comes u bound s height b items) world reading before (one world before bound height items comes)))
+    let first = one world before bound height own items comes in
+    to_old pages old now (λ (u : ℕ) (s : Shown). (left : List ℕ) × Comes true u bound s height c left items) world reading before
+    (two world told bound height first.0 items (to_now pages old now (λ (u : ℕ) (s : Shown). Comes true u bound s height b first.0 items) world reading before first.1))
 
 pub barred_before : {P : Type 0} (pages : Ghosts P) (old now then : P) (Breaks : ℕ → ℕ → Shown → ℕ → Type 0) (why : FetchFault) → ReadsAtMost pages old now
     → ReadsAtMost pages now then → IsBarred pages now then (Breaks (pages.usable now) (pages.last_page now)) why → IsBarred pages old then (Breaks (pages.usable old) (pages.last_page old)) why
@@ -261,3 +373,36 @@ barred_before pages old now then Breaks (fault.Corrupt page) reading more bars =
     (subst (λ (n : ℕ). Breaks (pages.usable now) n (shown_over pages now world) page) reading.last (bars world told))
 barred_before pages old now then Breaks (fault.Size count) reading more bars = bars
 barred_before pages old now then Breaks fault.Memory reading more bars = tt
+
+pub walked_join : {P T U : Type 0} (pages : Ghosts P) (old now then : P) (a b c : List Level) (done : T) (result : Result U FetchFault) → ReadsAtMost pages old now → ReadsAtMost pages now then
+    → HasWalked pages old a b (Ok done) now → HasWalked pages now b c result then → HasWalked pages old a c result then
+walked_join pages old now then a b c done result reading more one two = record {
+  kept = one.kept ++ two.kept;
+  again = two.again;
+  read = read_both (pages.has old) (pages.has now) (pages.reads old) (pages.reads now) (pages.reads then) one.kept (two.kept ++ two.again) reading.has
+      (one.read ∙ ap (λ (l : List ℕ). all_read (pages.has old) (pages.reads old) l) (ap (λ (l : List ℕ). one.kept ++ l) one.well ∙ append-nil one.kept)) two.read
+      ∙ ap (λ (l : List ℕ). all_read (pages.has old) (pages.reads old) l) (sym (append_assoc one.kept two.kept two.again));
+  well = two.well;
+  of = λ world told bound height own items comes.
+      let before = more.edits.narrows world told in
+      let first = one.of world before bound height own items comes in
+      let then_is = two.of world told bound height first.own_then first.items_then
+      (to_now pages old now (λ (u : ℕ) (s : Shown). Comes true u bound s height b first.own_then first.items_then) world reading before first.comes) in
+      record {
+        own_then = then_is.own_then;
+        items_then = then_is.items_then;
+        comes = to_old pages old now (λ (u : ℕ) (s : Shown). Comes true u bound s height c then_is.own_then then_is.items_then) world reading before then_is.comes;
+        within = within_then one.kept two.kept then_is.own_then first.own_then own first.within then_is.within;
+        next = then_is.next;
+      };
+}
+
+-- nothing was read
+pub walked_still : {P : Type 0} (pages : Ghosts P) (old : P) (levels : List Level) → HasWalked {T = Unit {0}} pages old levels levels (Ok tt) old
+walked_still pages old levels = record {
+  kept = [];
+  again = [];
+  read = refl;
+  well = refl;
+  of = λ world told bound height own items comes. record { own_then = own; items_then = items; comes = comes; within = within_same own; next = within_none own };
+}

@@ -1,3 +1,4 @@
 pub mod Coming
 pub mod Scanning
 pub mod Seeking
+pub mod Reads

@@ -19,26 +19,28 @@ pub record SoughtLast (usable last : ℕ) (shown : Shown) (height : ℕ) (rowid 
   pub items_are : items ≡ front ++ rest
   pub node : Node
   pub holds : shown.node level.page ≡ Some node
-  pub left : Rests usable last shown height node level.place rest
+  pub rest_own : List ℕ
+  pub left : Rests true usable last shown height node level.place level.at_cell rest_own rest
   pub stands : StandsAt node.cells rowid level.place
   pub under : Each (λ (item : Item). item.key <ℤ rowid) front
   pub over : is_leaf node.kind ≡ true → Each (λ (item : Item). rowid ≤ℤ item.key) rest
 
 -- what is left of a level above has no smaller keys
-pub record SoughtAbove (shown : Shown) (rowid : ℤ) (page : ℕ) (Below : List Item → Type 0) (Left : Node → List Item → Type 0) (items : List Item) : Type 0 where
+pub record SoughtAbove (shown : Shown) (rowid : ℤ) (page : ℕ) (Below : List Item → Type 0) (Left : Node → List ℕ → List Item → Type 0) (items : List Item) : Type 0 where
   pub below : List Item
   pub rest : List Item
   pub items_are : items ≡ below ++ rest
   pub sought : Below below
   pub node : Node
   pub holds : shown.node page ≡ Some node
-  pub left : Left node rest
+  pub rest_own : List ℕ
+  pub left : Left node rest_own rest
   pub over : Each (λ (item : Item). rowid ≤ℤ item.key) rest
 
 abbrev pub Sought : (usable last : ℕ) → Shown → (height : ℕ) → ℤ → (above : List Level) → (top : Level) → List Item → Type 0
 Sought usable last shown height rowid [] top items = SoughtLast usable last shown height rowid top items
 Sought usable last shown height rowid (level ∷ above) top items =
-    SoughtAbove shown rowid level.page (Sought usable last shown (one_less height) rowid above top) (λ node. Rests usable last shown height node level.place) items
+    SoughtAbove shown rowid level.page (Sought usable last shown (one_less height) rowid above top) (λ node. Rests true usable last shown height node level.place level.at_cell) items
 
 -- these levels
 pub record IsSought (usable last : ℕ) (shown : Shown) (height : ℕ) (rowid : ℤ) (levels : List Level) (items : List Item) : Type 0 where
@@ -57,7 +59,8 @@ pub record Found (usable last : ℕ) (shown : Shown) (height : ℕ) (rowid : ℤ
   pub front : List Item
   pub rest : List Item
   pub items_are : items ≡ front ++ rest
-  pub comes : Comes usable last shown height levels rest
+  pub own : List ℕ
+  pub comes : Comes true usable last shown height levels own rest
   pub under : Each (λ (item : Item). item.key <ℤ rowid) front
   pub over : Each (λ (item : Item). rowid ≤ℤ item.key) rest
 
@@ -65,7 +68,7 @@ pub record Found (usable last : ℕ) (shown : Shown) (height : ℕ) (rowid : ℤ
 abbrev pub StartsWhole : {P : Type 0} → Ghosts P → P → (root : ℕ) → List Level → P → Type 0
 StartsWhole pages old root levels new = (world : View) → pages.tells new world → (bound height : ℕ) (own : List ℕ) (items : List Item)
     → IsTree true (pages.usable old) bound (shown_over pages old world) height root own items
-    → Comes (pages.usable old) bound (shown_over pages old world) height levels items
+    → (left : List ℕ) × Comes true (pages.usable old) bound (shown_over pages old world) height levels left items
 
 abbrev pub StartsAt : {P : Type 0} → Ghosts P → P → (root : ℕ) → ℤ → List Level → P → Type 0
 StartsAt pages old root rowid levels new = (world : View) → pages.tells new world → (bound height : ℕ) (own : List ℕ) (items : List Item)

@@ -1,7 +1,8 @@
 // A cursor over a table's tree.
 ghost use Rattle.std.specs.Prelude.{◌≡◌, ◌⊎◌, ℕ, suc, ◌≤◌, ◌<◌, true, false, length, OnOk, IfOk, IfErr, OnErr, List, [], Some, None};
 ghost use Rattle.page_face.specs.Pages.{ReadsAtMost};
-ghost use Rattle.tree_scan.specs.Scanning.{Fits, GivesNext, StaysThere, IsBarred, BreaksStart, BreaksOn, BreaksNext};
+ghost use Rattle.tree_scan.specs.Reads.{HasReadAhead};
+ghost use Rattle.tree_scan.specs.Scanning.{Fits, GivesNext, StaysThere, FailsNext, FailsStart, IsBarred, BreaksStart, BreaksOn, BreaksNext};
 
 use crate::level::Level;
 use crate::path::{first_path, go_down, go_up, step_on};
@@ -55,7 +56,9 @@ impl Cursor {
         ensures gives { IfOk result (λ found. GivesNext P.PagesTells pages.old self.old found self.new pages.new) }
         ensures stays { OnErr result (StaysThere P.PagesTells pages.old self.old self.new pages.new) }
         ensures barred { IfErr result (IsBarred P.PagesTells pages.old pages.new (λ shown. BreaksNext (P.usable pages.old) (P.last_page pages.old) shown self.new)) }
+        ensures sound { IfErr result (λ why. FailsNext P.PagesTells pages.old self.old why pages.new) }
         ensures fits { Fits P.PagesTells pages.new self.new }
+        ensures reads { HasReadAhead P.PagesTells pages.old self.old result self.new pages.new }
         ensures reading { ReadsAtMost P.PagesTells pages.old pages.new }
     {
         match self.begin(pages) {
@@ -76,7 +79,9 @@ impl Cursor {
         ensures begun { OnOk result (self.new.begun ≡ true) }
         ensures not_begun { OnErr result (self.new.begun ≡ false) }
         ensures barred { IfErr result (IsBarred P.PagesTells pages.old pages.new (λ shown. BreaksStart (P.last_page pages.old) shown self.new.root self.new.levels.items)) }
+        ensures sound { IfErr result (λ why. FailsStart P.PagesTells pages.old self.old why pages.new) }
         ensures fits { Fits P.PagesTells pages.new self.new }
+        ensures reads { HasReadAhead P.PagesTells pages.old self.old result self.new pages.new }
         ensures reading { ReadsAtMost P.PagesTells pages.old pages.new }
     {
         if self.begun {
@@ -110,8 +115,10 @@ impl Cursor {
         ensures gives { IfOk result (λ found. GivesNext P.PagesTells pages.old self.old found self.new pages.new) }
         ensures stays { OnErr result (StaysThere P.PagesTells pages.old self.old self.new pages.new) }
         ensures begun { self.new.begun ≡ true }
-        ensures barred { IfErr result (IsBarred P.PagesTells pages.old pages.new (λ shown. BreaksOn (P.usable pages.old) (P.last_page pages.old) shown self.new.levels.items)) }
+        ensures barred { IfErr result (IsBarred P.PagesTells pages.old pages.new (λ shown. BreaksOn (P.usable pages.old) (P.last_page pages.old) shown self.new.high self.new.levels.items)) }
+        ensures sound { IfErr result (λ why. FailsNext P.PagesTells pages.old self.old why pages.new) }
         ensures fits { Fits P.PagesTells pages.new self.new }
+        ensures reads { HasReadAhead P.PagesTells pages.old self.old result self.new pages.new }
         ensures reading { ReadsAtMost P.PagesTells pages.old pages.new }
     {
         go_up(&mut self.levels, &mut self.spare);
@@ -120,7 +127,10 @@ impl Cursor {
             Err(why) => return Err(why),
         }
         match row_at(self.alloc, pages, &self.levels, self.high, &mut self.spare) {
-            Ok(None) => Ok(None),
+            Ok(None) => {
+                self.levels.clear();
+                Ok(None)
+            }
             Ok(Some(row)) => {
                 step_on(&mut self.levels);
                 Ok(Some(row))

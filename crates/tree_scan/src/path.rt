@@ -2,11 +2,12 @@
 ghost use Rattle.std.specs.Prelude.{◌≡◌, ◌⊎◌, ℕ, suc, ℤ, ◌≤◌, ◌<◌, Option, Some, None, true, false, List, [], ◌∷◌, ◌++◌, length, OnOk, IfOk, IfErr, OnErr};
 ghost use Rattle.engine_spec.specs.declared.commits.FetchFault.TheVariants as fault;
 ghost use Rattle.tree_spec.specs.Layout.{Each};
-ghost use Rattle.page_face.specs.Pages.{ReadsAtMost};
+ghost use Rattle.page_face.specs.Pages.{ReadsAtMost, pages_read};
 ghost use Rattle.node_spec.specs.Kinds.{is_leaf};
-ghost use Rattle.tree_read.specs.Looking.{HasNode, BarsNode};
-ghost use Rattle.tree_scan.specs.Coming.{IsSpent};
+ghost use Rattle.tree_read.specs.Looking.{HasNode, BarsNode, FailsLast};
+ghost use Rattle.tree_scan.specs.Coming.{IsSpent, gone_below, gone_past};
 ghost use Rattle.tree_scan.specs.Scanning.{AreLevels, KeepsComing, IsBarred, BreaksChild, BreaksStart};
+ghost use Rattle.tree_scan.specs.Reads.{HasWalked, HasStarted};
 ghost use Rattle.tree_scan.specs.Seeking.{KeepsSought, StartsWhole, StartsAt};
 ghost use Rattle.node_spec.specs.Nodes.{Node};
 ghost use Rattle.page_form.specs.Reading.{IsReadPage};
@@ -80,7 +81,7 @@ pub(crate) fn buffer(
 pub(crate) fn attach(levels: &mut Vec<Level>, level: Level) -> Result<(), FetchFault>
     requires { (above : List Level) × ((top : Level) × ((levels.old.items ≡ above ++ top ∷ []) × (top.place < 9223372036854775808))) }
     ensures ok { OnOk result ((above : List Level) (top : Level) → levels.old.items ≡ above ++ top ∷ []
-        → levels.new.items ≡ above ++ (record top { place = suc top.place }) ∷ level ∷ []) }
+        → levels.new.items ≡ above ++ gone_below true top ∷ level ∷ []) }
     ensures cause { IfErr result (λ why. why ≡ fault.Memory) }
     ensures kept { OnErr result (levels.new.items ≡ levels.old.items) }
 {
@@ -93,17 +94,25 @@ pub(crate) fn attach(levels: &mut Vec<Level>, level: Level) -> Result<(), FetchF
     Ok(())
 }
 
-// The last level goes on to its next cell.
+// The last level goes on past its cell.
 pub(crate) fn step_on(levels: &mut Vec<Level>)
     requires { (above : List Level) × ((top : Level) × ((levels.old.items ≡ above ++ top ∷ []) × (top.place < 9223372036854775808))) }
-    ensures { (above : List Level) (top : Level) → levels.old.items ≡ above ++ top ∷ []
-        → levels.new.items ≡ above ++ (record top { place = suc top.place }) ∷ [] }
+    ensures { (above : List Level) (top : Level) → levels.old.items ≡ above ++ top ∷ [] → levels.new.items ≡ above ++ gone_past top ∷ [] }
 {
     let at = levels.len() - 1;
-    levels[at].place += 1;
+    go_past(&mut levels[at]);
 }
 
-// Goes down along the children that come next to a leaf. Something is left of it then; with a low bound it stands at the bound's place.
+// A level goes on past its cell.
+fn go_past(level: &mut Level)
+    requires { level.old.place < 9223372036854775808 }
+    ensures { level.new ≡ gone_past level.old }
+{
+    level.place += 1;
+    level.at_cell = is_leaf(level.node.kind);
+}
+
+// Goes down along the children that come next to where a cell comes next. It is there then; with a low bound it is that of the bound's place.
 pub(crate) fn go_down<P: Pages>(
     alloc: Global,
     pages: &mut P,
@@ -112,19 +121,20 @@ pub(crate) fn go_down<P: Pages>(
     low: Option<i64>,
 ) -> Result<(), FetchFault>
     requires ready { P.ready pages.old }
-    requires levels { AreLevels P.PagesTells pages.old levels.old.items }
-    requires left { (above : List Level) (top : Level) → levels.old.items ≡ above ++ top ∷ [] → is_leaf top.node.kind ≡ false → IsSpent top → ⊥ }
-    ensures levels { AreLevels P.PagesTells pages.new levels.new.items }
+    requires levels { AreLevels true P.PagesTells pages.old levels.old.items }
+    requires left { (above : List Level) (top : Level) → levels.old.items ≡ above ++ top ∷ [] → top.at_cell ≡ false → IsSpent top → ⊥ }
+    ensures levels { AreLevels true P.PagesTells pages.new levels.new.items }
     ensures coming { low ≡ None → KeepsComing P.PagesTells pages.old levels.old.items levels.new.items pages.new }
     ensures sought { (rowid : ℤ) → low ≡ Some rowid → KeepsSought P.PagesTells pages.old rowid levels.old.items levels.new.items pages.new }
     ensures left { low ≡ None → ((above : List Level) (top : Level) → levels.old.items ≡ above ++ top ∷ [] → IsSpent top → ⊥)
         → (above : List Level) (top : Level) → levels.new.items ≡ above ++ top ∷ [] → IsSpent top → ⊥ }
-    ensures leaf { OnOk result ((above : List Level) (top : Level) → levels.new.items ≡ above ++ top ∷ [] → is_leaf top.node.kind ≡ true) }
+    ensures walked { HasWalked P.PagesTells pages.old levels.old.items levels.new.items result pages.new }
+    ensures cell { OnOk result ((above : List Level) (top : Level) → levels.new.items ≡ above ++ top ∷ [] → top.at_cell ≡ true) }
     ensures barred { IfErr result (IsBarred P.PagesTells pages.old pages.new (λ shown. BreaksChild (P.last_page pages.old) shown levels.new.items)) }
     ensures reading { ReadsAtMost P.PagesTells pages.old pages.new }
 {
     'downs: loop {
-        if at_leaf(levels) {
+        if is_at_cell(levels) {
             return Ok(());
         }
         match enter(alloc, pages, levels, spare, low) {
@@ -134,16 +144,16 @@ pub(crate) fn go_down<P: Pages>(
     }
 }
 
-// Whether there is no level, or the last is a leaf.
-fn at_leaf(levels: &Vec<Level>) -> bool
-    ensures leaf { result ≡ true → (above : List Level) (top : Level) → levels.now.items ≡ above ++ top ∷ [] → is_leaf top.node.kind ≡ true }
-    ensures inner { result ≡ false → (above : List Level) × ((top : Level) × ((levels.now.items ≡ above ++ top ∷ []) × (is_leaf top.node.kind ≡ false))) }
+// Whether there is no level, or a cell of the last comes next.
+fn is_at_cell(levels: &Vec<Level>) -> bool
+    ensures cell { result ≡ true → (above : List Level) (top : Level) → levels.now.items ≡ above ++ top ∷ [] → top.at_cell ≡ true }
+    ensures child { result ≡ false → (above : List Level) × ((top : Level) × ((levels.now.items ≡ above ++ top ∷ []) × (top.at_cell ≡ false))) }
 {
     let count = levels.len();
     if count == 0 {
         return true;
     }
-    is_leaf(levels[count - 1].node.kind)
+    levels[count - 1].at_cell
 }
 
 // Goes down to the child that comes next.
@@ -155,15 +165,16 @@ fn enter<P: Pages>(
     low: Option<i64>,
 ) -> Result<(), FetchFault>
     requires ready { P.ready pages.old }
-    requires levels { AreLevels P.PagesTells pages.old levels.old.items }
-    requires inner { (above : List Level) × ((top : Level) × ((levels.old.items ≡ above ++ top ∷ []) × ((is_leaf top.node.kind ≡ false) × (IsSpent top → ⊥)))) }
-    ensures levels { AreLevels P.PagesTells pages.new levels.new.items }
+    requires levels { AreLevels true P.PagesTells pages.old levels.old.items }
+    requires inner { (above : List Level) × ((top : Level) × ((levels.old.items ≡ above ++ top ∷ []) × ((top.at_cell ≡ false) × (IsSpent top → ⊥)))) }
+    ensures levels { AreLevels true P.PagesTells pages.new levels.new.items }
     ensures coming { low ≡ None → KeepsComing P.PagesTells pages.old levels.old.items levels.new.items pages.new }
     ensures sought { (rowid : ℤ) → low ≡ Some rowid → KeepsSought P.PagesTells pages.old rowid levels.old.items levels.new.items pages.new }
     ensures left { OnOk result (low ≡ None → (above : List Level) (top : Level) → levels.new.items ≡ above ++ top ∷ [] → IsSpent top → ⊥) }
-    ensures inner { OnOk result ((above : List Level) (top : Level) → levels.new.items ≡ above ++ top ∷ [] → is_leaf top.node.kind ≡ false → IsSpent top → ⊥) }
+    ensures inner { OnOk result ((above : List Level) (top : Level) → levels.new.items ≡ above ++ top ∷ [] → top.at_cell ≡ false → IsSpent top → ⊥) }
     ensures more { OnOk result (length levels.new.items ≡ suc (length levels.old.items)) }
     ensures kept { OnErr result (levels.new.items ≡ levels.old.items) }
+    ensures walked { HasWalked P.PagesTells pages.old levels.old.items levels.new.items result pages.new }
     ensures barred { IfErr result (IsBarred P.PagesTells pages.old pages.new (λ shown. BreaksChild (P.last_page pages.old) shown levels.old.items)) }
     ensures reading { ReadsAtMost P.PagesTells pages.old pages.new }
 {
@@ -197,6 +208,8 @@ pub(crate) fn read_level<P: Pages>(
     requires page { (1 ≤ page) × (page ≤ P.last_page pages.old) }
     ensures node { IfOk result (λ level. HasNode P.PagesTells pages.old true page depth level.bytes.items level.node pages.new) }
     ensures page { IfOk result (λ level. level.page ≡ page) }
+    ensures at_cell { IfOk result (λ level. level.at_cell ≡ is_leaf level.node.kind) }
+    ensures read { OnErr result ((P.reads pages.new ≡ P.reads pages.old) ⊎ (P.reads pages.new ≡ pages_read P.PagesTells pages.old page)) }
     ensures front { IfOk result (λ level. low ≡ None → level.place ≡ 0) }
     ensures stands { IfOk result (λ level. (rowid : ℤ) → low ≡ Some rowid → (node : Node) → IsReadPage (P.usable pages.old) level.bytes.items level.node node
         → StandsAt node.cells rowid level.place) }
@@ -212,11 +225,13 @@ pub(crate) fn read_level<P: Pages>(
     match read_node(alloc, pages, true, page, depth, bytes.as_mut_slice()) {
         Ok(node) => {
             let place = first_place(&node, bytes.as_slice(), usable, low);
+            let at_cell = is_leaf(node.kind);
             Ok(Level {
                 page,
                 node,
                 bytes,
                 place,
+                at_cell,
             })
         }
         Err(why) => Err(why),
@@ -248,10 +263,12 @@ pub(crate) fn first_path<P: Pages>(
     requires ready { P.ready pages.old }
     requires root { (1 ≤ root) × (root ≤ P.last_page pages.old) }
     requires none { levels.old.items ≡ [] }
-    ensures levels { AreLevels P.PagesTells pages.new levels.new.items }
+    ensures levels { AreLevels true P.PagesTells pages.new levels.new.items }
     ensures whole { OnOk result (low ≡ None → StartsWhole P.PagesTells pages.old root levels.new.items pages.new) }
     ensures at { OnOk result ((rowid : ℤ) → low ≡ Some rowid → StartsAt P.PagesTells pages.old root rowid levels.new.items pages.new) }
     ensures barred { IfErr result (IsBarred P.PagesTells pages.old pages.new (λ shown. BreaksStart (P.last_page pages.old) shown root levels.new.items)) }
+    ensures started { HasStarted P.PagesTells pages.old root levels.new.items result pages.new }
+    ensures sound { IfErr result (λ why. FailsLast P.PagesTells pages.old root why pages.new) }
     ensures reading { ReadsAtMost P.PagesTells pages.old pages.new }
 {
     let level = match read_level(alloc, pages, root, 0, spare, low) {

@@ -1,11 +1,11 @@
 // The row at a path's last place.
 ghost use Rattle.std.specs.Prelude.{◌≡◌, ◌≤◌, ◌<◌, true, false, List, [], ◌∷◌, ◌++◌, length, IfOk, IfErr, MatchOption};
-ghost use Rattle.node_spec.specs.Kinds.{is_leaf};
 ghost use Rattle.node_spec.specs.Cells.{NodeCell};
 ghost use Rattle.page_face.specs.Pages.{ReadsAtMost};
 ghost use Rattle.page_form.specs.Reading.{TellsCell};
 ghost use Rattle.tree_read.specs.Payloads.{HasReadRow};
 ghost use Rattle.tree_scan.specs.Coming.{IsOver, IsSpent};
+ghost use Rattle.tree_scan.specs.Reads.{HasTaken};
 ghost use Rattle.tree_scan.specs.Scanning.{AreLevels, TakesNext, IsBarred, BreaksNextRow};
 ghost use Rattle.tree_scan.specs.declared.level.Level.{Level};
 
@@ -26,12 +26,13 @@ pub(crate) fn row_at<P: Pages>(
     spare: &mut Vec<Vec<u8>>,
 ) -> Result<Option<(i64, Row)>, FetchFault>
     requires ready { P.ready pages.old }
-    requires levels { AreLevels P.PagesTells pages.old levels.now.items }
-    requires leaf { (above : List Level) (top : Level) → levels.now.items ≡ above ++ top ∷ [] → is_leaf top.node.kind ≡ true }
+    requires levels { AreLevels true P.PagesTells pages.old levels.now.items }
+    requires cell { (above : List Level) (top : Level) → levels.now.items ≡ above ++ top ∷ [] → top.at_cell ≡ true }
     requires left { (above : List Level) (top : Level) → levels.now.items ≡ above ++ top ∷ [] → IsSpent top → ⊥ }
     ensures takes { IfOk result (λ found. TakesNext P.PagesTells pages.old high levels.now.items found pages.new) }
+    ensures taken { HasTaken P.PagesTells pages.old levels.now.items result pages.new }
     ensures there { IfOk result (λ found. MatchOption found (Unit {0}) (λ _. 1 ≤ length levels.now.items)) }
-    ensures barred { IfErr result (IsBarred P.PagesTells pages.old pages.new (λ shown. BreaksNextRow (P.usable pages.old) (P.last_page pages.old) shown levels.now.items)) }
+    ensures barred { IfErr result (IsBarred P.PagesTells pages.old pages.new (λ shown. BreaksNextRow (P.usable pages.old) (P.last_page pages.old) shown high levels.now.items)) }
     ensures reading { ReadsAtMost P.PagesTells pages.old pages.new }
 {
     let count = levels.len();

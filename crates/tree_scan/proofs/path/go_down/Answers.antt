@@ -1,14 +1,14 @@
-use Rattle.std.proofs.Common.{◌≡◌, ℕ, List, [], ◌∷◌, ◌++◌, sym, subst}
-use Rattle.page_face.proofs.PageLaws.{reading_join}
+use Rattle.std.proofs.Common.{◌≡◌, ℕ, List, [], ◌∷◌, ◌++◌, Ok, Err, sym, subst}
+use Rattle.page_face.proofs.PageLaws.{reading_join, reading_same}
 use Rattle.tree_spec.specs.Shown.{Shown}
 use Rattle.tree_scan.specs.declared.level.Level.{Level}
 use Rattle.tree_scan.specs.Scanning.{IsBarred, BreaksChild}
-use Rattle.tree_scan.proofs.Shows.{keeps_join, sought_join, barred_before}
+use Rattle.tree_scan.proofs.Shows.{walked_join, walked_still, keeps_join, sought_join, barred_before}
 use Rattle.tree_scan.proofs.path.go_down.Goals as goal
 
 pub enter-requires-clause-inner : goal.enter-requires-clause-inner
 enter-requires-clause-inner g c =
-    let found = c.at_leaf.ensures.inner c.if-at_leaf.false in
+    let found = c.is_at_cell.ensures.child c.if-is_at_cell.false in
     (found.0, (found.1.0, (found.1.1.0, (found.1.1.1, c.downs.invariant.inner found.0 found.1.0 found.1.1.0 found.1.1.1))))
 
 pub downs-preserved : goal.downs-preserved
@@ -22,6 +22,8 @@ downs-preserved g c =
           (before.coming none) (c.in-Ok.ensures.coming none);
       sought = λ rowid is. sought_join p c.args.pages.now c.downs.pages c.enter.new.pages rowid c.args.levels.now.items c.downs.levels.items c.enter.new.levels.items before.reading
           c.in-Ok.ensures.reading (before.sought rowid is) (c.in-Ok.ensures.sought rowid is);
+      walked = walked_join {T = Unit {0}} {U = Unit {0}} p c.args.pages.now c.downs.pages c.enter.new.pages c.args.levels.now.items c.downs.levels.items c.enter.new.levels.items tt (Ok tt) before.reading
+          c.in-Ok.ensures.reading before.walked c.in-Ok.ensures.walked;
       inner = c.in-Ok.ensures.inner;
       left = λ none first. c.in-Ok.ensures.left none;
     }
@@ -45,3 +47,19 @@ pub returns-in-Err-clause-sought : goal.returns-in-Err-clause-sought
 returns-in-Err-clause-sought g c = λ rowid is.
     sought_join g.P.PagesTells c.args.pages.now c.downs.pages c.enter.new.pages rowid c.args.levels.now.items c.downs.levels.items c.enter.new.levels.items c.downs.invariant.reading
     c.in-Err.ensures.reading (c.downs.invariant.sought rowid is) (c.in-Err.ensures.sought rowid is)
+
+pub returns-in-Err-clause-walked : goal.returns-in-Err-clause-walked
+returns-in-Err-clause-walked g c =
+    walked_join {T = Unit {0}} {U = Unit {0}} g.P.PagesTells c.args.pages.now c.downs.pages c.enter.new.pages c.args.levels.now.items c.downs.levels.items c.enter.new.levels.items tt (Err c.in-Err.why)
+    c.downs.invariant.reading c.in-Err.ensures.reading c.downs.invariant.walked c.in-Err.ensures.walked
+
+pub downs-init : goal.downs-init
+downs-init g c = record {
+  reading = reading_same g.P.PagesTells c.args.pages.now c.requires.ready (g.P.PagesTells.follows_itself c.args.pages.now);
+  levels = c.requires.levels;
+  coming = λ none world told bound height own items comes. (own, comes);
+  sought = λ rowid is world told bound height items sought. sought;
+  walked = walked_still g.P.PagesTells c.args.pages.now c.args.levels.now.items;
+  left = λ none first. first;
+  inner = c.requires.left;
+}
