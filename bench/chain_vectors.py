@@ -11,14 +11,9 @@ import sqlite3
 import struct
 import tempfile
 
+from vectors import literal
+
 TEXT = " ".join("%04d" % k for k in range(1, 211))
-
-
-def rust(data):
-    out = ""
-    for byte in data:
-        out += chr(byte) if 32 <= byte < 127 and byte not in (34, 92) else "\\x%02x" % byte
-    return out
 
 
 def main():
@@ -47,11 +42,11 @@ def main():
     print("/// Pages 3 and 4 of a database whose page 2 has a row of which the end is in these.")
     print("pub const LINKS: [&[u8; 512]; 2] = [")
     for page in pages[2:]:
-        print('    b"%s",' % rust(page))
+        print("    %s," % literal(page))
     print("];")
     print()
     print("/// The end of the text.")
-    print('pub const END: &[u8; %d] = b"%s";' % (len(end), rust(end.encode())))
+    print("pub const END: &[u8; %d] = %s;" % (len(end), literal(end.encode())))
 
 
 main()

@@ -16,21 +16,14 @@ import struct
 import sys
 import tempfile
 
+from vectors import checksum, literal
+
 BIG, LITTLE, OWN, STOCK_VERSION = 0x377F0683, 0x377F0682, 93021000, 3007000
 LAST = 4_000_000_000
 WORDS = [101, 102, 103]
 
 
 # ---- laying files
-
-def checksum(order, sums, data):
-    s0, s1 = sums
-    words = struct.unpack("%s%dI" % (order, len(data) // 4), data)
-    for x, y in zip(words[::2], words[1::2]):
-        s0 = (s0 + x + s1) % 2**32
-        s1 = (s1 + y + s0) % 2**32
-    return s0, s1
-
 
 def log_header(generation, salt1, salt2, page_size=512, version=OWN, magic=BIG):
     head = struct.pack(">6I", magic, version, page_size, generation, salt1, salt2)
@@ -283,9 +276,12 @@ def settle(main, one, two, kind):
 
 # ---- rows
 
-def literal(data):
-    shown = "".join(chr(b) if chr(b).isalnum() and b < 128 or b in b" ()," else "\\x%02x" % b for b in data)
-    return 'b"%s"' % shown
+# Letters, digits, and what stands between the words of a CREATE text.
+WRITTEN = bytes(byte for byte in range(128) if chr(byte).isalnum() or byte in b" (),")
+
+
+def spelled(data):
+    return literal(data, WRITTEN)
 
 
 def runs(data):
@@ -296,7 +292,7 @@ def runs(data):
         while end < len(data) and data[end] == data[at]:
             end += 1
         if end - at >= 12 or end == len(data):
-            out.append("(%s, %d, %d)" % (literal(data[begun:at]), end - at, data[at]))
+            out.append("(%s, %d, %d)" % (spelled(data[begun:at]), end - at, data[at]))
             begun = end
         at = end
     return "&[%s]" % ", ".join(out)
@@ -329,7 +325,7 @@ def sees(text, by_hand, main, one=b"", two=b"", hot=False, puts=(), cut=0):
     found = found if isinstance(found, str) else found[0]
     assert found == by_hand, (text, found, by_hand)
     told = "Err(LookFault::%s)" % found if isinstance(found, str) else "Ok((%s, [%d, %d, %d, %d], %d))" % (str(found[0]).lower(), *found[1:])
-    given = [("main", shown(main), "Named::Empty"), ("puts", "&[%s]" % ", ".join("(%d, %s)" % (at, literal(piece)) for at, piece in puts), "&[]"),
+    given = [("main", shown(main), "Named::Empty"), ("puts", "&[%s]" % ", ".join("(%d, %s)" % (at, spelled(piece)) for at, piece in puts), "&[]"),
              ("cut", str(cut), "0"), ("one", shown(one), "Named::Empty"), ("two", shown(two), "Named::Empty"), ("hot", str(hot).lower(), "false"), ("told", told, "")]
     LOOKS.append("// %s\nLook { %s, ..NOTHING }," % (text, ", ".join("%s: %s" % (field, value) for field, value, usual in given if value != usual)))
 
@@ -349,7 +345,7 @@ def leaves(text, by_hand, main, one=b"", two=b"", kind="Pages", sound=False):
     assert not sound or is_sound(after)
     SETTLES.append("// %s\nSettled { main: %s, one: %s, two: %s, kind: StoreKind::%s, after: %s, header1: *%s, header2: *%s, generation: %d, "
                    "writes: %s, syncs: %s, told: (%s, [%d, %d, %d, %d], %d) }," % (
-                       text, shown(main), shown(one), shown(two), kind, shown(after), literal(logs[0][:32]), literal(logs[1][:32]),
+                       text, shown(main), shown(one), shown(two), kind, shown(after), spelled(logs[0][:32]), spelled(logs[1][:32]),
                        generation, writes, syncs, str(told[0]).lower(), *told[1:]))
     return after
 

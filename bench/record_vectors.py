@@ -10,6 +10,8 @@ import sqlite3
 import sys
 import tempfile
 
+from vectors import literal
+
 
 def varint(data, at):
     number = 0
@@ -93,13 +95,6 @@ def without_constants(record):
     if not any(serial in (8, 9) for serial in serials):
         return b""
     return record[: len(spelled(header))] + b"".join(kinds) + b"".join(bodies)
-
-
-def literal(data):
-    text = ""
-    for byte in data:
-        text += chr(byte) if 32 <= byte < 127 and byte not in b'"\\' else "\\x%02x" % byte
-    return 'b"%s"' % text
 
 
 def told(connection, columns, rowid):

@@ -12,16 +12,11 @@ import sqlite3
 import struct
 import tempfile
 
+from vectors import literal
+
 ROWS = [(10 * k, 7 * k, ("%03d " % k) * (150 if k == 5 else 25)) for k in range(1, 10)]
 
 ENTRIES = [(k, str(k) * (300 if k == 5 else 56)) for k in range(1, 10)]
-
-
-def rust(data):
-    out = ""
-    for byte in data:
-        out += chr(byte) if 32 <= byte < 127 and byte not in (34, 92) else "\\x%02x" % byte
-    return out
 
 
 def main():
@@ -58,7 +53,7 @@ def main():
     print("/// that of an index of nine entries.")
     print("pub const PAGES: [&[u8; 512]; %d] = [" % (len(pages) - 1))
     for page in pages[1:]:
-        print('    b"%s",' % rust(page))
+        print("    %s," % literal(page))
     print("];")
 
 

@@ -8,16 +8,9 @@ version number, and that the sequence number holds a generation, are this projec
 """
 import struct
 
+from vectors import checksum, literal
+
 BIG, LITTLE, VERSION = 0x377F0683, 0x377F0682, 93021000
-
-
-def checksum(order, sums, data):
-    s0, s1 = sums
-    words = struct.unpack("%s%dI" % (order, len(data) // 4), data)
-    for x, y in zip(words[::2], words[1::2]):
-        s0 = (s0 + x + s1) % 2**32
-        s1 = (s1 + y + s0) % 2**32
-    return s0, s1
 
 
 class Log:
@@ -38,12 +31,8 @@ class Log:
         return self
 
 
-def literal(data):
-    return '*b"%s"' % "".join("\\x%02x" % byte for byte in data)
-
-
 def constant(name, text, data):
-    print("/// %s\npub const %s: [u8; %d] = %s;\n" % (text, name, len(data), literal(data)))
+    print("/// %s\npub const %s: [u8; %d] = *%s;\n" % (text, name, len(data), literal(data, plain=b"")))
 
 
 def main():

@@ -1,3 +1,6 @@
+// Runs of the whole program over page lines in memory, from sources to sinks in memory.
+ghost use Rattle.std.specs.Prelude.{◌≡◌, false};
+
 use crate::top::top;
 use disk_face::{Failed, Source, Word};
 use disk_mem::{FixedSalts, MemDisk, MemSink, MemSource};
@@ -8,8 +11,8 @@ use std::test::Fail;
 /// One run, and what it has to come to.
 #[derive(Drop)]
 struct Row {
-    /// The word of the command line.
-    word: &'static [u8],
+    /// The words of the command line, with a blank between each two.
+    words: &'static [u8],
     script: &'static [u8],
     /// The most bytes that a call of the source gives, and that one of the sink takes.
     piece: usize,
@@ -21,45 +24,63 @@ struct Row {
     written: &'static [u8],
 }
 
-/// Runs with ample memory, and gives the status and what was written.
+/// Runs with ample memory and no files, and gives the status and what was written.
 fn run(
     alloc: Global,
-    word: &[u8],
+    words: &[u8],
     script: Vec<u8>,
     piece: usize,
     source_fails: Option<u64>,
     sink_fails: Option<u64>,
 ) -> Result<(u8, MemSink), AllocError> {
+    let mut disk = empty_disk(alloc);
     let mut source = MemSource::new(script, piece.max(1), source_fails);
     let mut sink = MemSink::new(alloc, piece.max(1), sink_fails);
-    let status = run_over(alloc, word, &mut source, &mut sink)?;
+    let status = run_over(alloc, words, &mut disk, &mut source, &mut sink)?;
     Ok((status, sink))
 }
 
-/// Runs with ample memory over this source and sink, and gives the status.
+/// Runs with ample memory over this disk, source and sink, and gives the status.
 fn run_over(
     alloc: Global,
-    word: &[u8],
+    words: &[u8],
+    disk: &mut MemDisk,
     source: &mut MemSource,
     sink: &mut MemSink,
-) -> Result<u8, AllocError> {
+) -> Result<u8, AllocError>
+    requires { disk.old.attached ≡ false }
+{
+    let words = words_in(alloc, words)?;
+    let mut salts = FixedSalts::new(Vec::new(alloc));
+    Ok(top(alloc, &words, disk, source, sink, &mut salts))
+}
+
+/// The words of a line, in which a blank stands between each two.
+fn words_in(alloc: Global, line: &[u8]) -> Result<Vec<Word>, AllocError> {
     let mut words = Vec::new(alloc);
-    words.push(Word::of(alloc, word)?)?;
-    let mut disk = MemDisk::new(
+    for word in line.split(|byte| *byte == b' ') {
+        words.push(Word::of(alloc, word)?)?;
+    }
+    Ok(words)
+}
+
+/// Three empty files.
+fn empty_disk(alloc: Global) -> MemDisk
+    ensures { result.attached ≡ false }
+{
+    MemDisk::new(
         alloc,
         Vec::new(alloc),
         Vec::new(alloc),
         Vec::new(alloc),
         Vec::new(alloc),
-    );
-    let mut salts = FixedSalts::new(Vec::new(alloc));
-    Ok(top(alloc, &words, &mut disk, source, sink, &mut salts))
+    )
 }
 
 /// A run of `pages` that meets no fault.
 fn plain(script: &'static [u8], status: u8, written: &'static [u8]) -> Row {
     Row {
-        word: b"pages",
+        words: b"pages",
         script,
         piece: 4096,
         source_fails: None,
@@ -104,11 +125,19 @@ fn scripts_and_faults(rt: HostRuntime) -> Result<(), Fail> {
             b"1: ok\nscript refused at line 2\n",
         ),
         Row {
-            word: b"frob",
+            words: b"frob",
             ..plain(SNAPSHOTS, 2, b"words refused\n")
         },
         Row {
-            word: b"frob",
+            words: b"pages a b",
+            ..plain(SNAPSHOTS, 2, b"words refused\n")
+        },
+        Row {
+            words: b"pages --limit 0 db",
+            ..plain(SNAPSHOTS, 2, b"words refused\n")
+        },
+        Row {
+            words: b"frob",
             sink_fails: Some(1),
             ..plain(SNAPSHOTS, 4, b"")
         },
@@ -152,7 +181,7 @@ fn scripts_and_faults(rt: HostRuntime) -> Result<(), Fail> {
         let script = row.script.to_vec(rt.alloc())?;
         let (status, sink) = run(
             rt.alloc(),
-            row.word,
+            row.words,
             script,
             row.piece,
             row.source_fails,
@@ -227,9 +256,10 @@ fn order(
     for _ in 0..12 {
         script.extend_from_slice(b"0: STEP\n")?;
     }
+    let mut disk = empty_disk(alloc);
     let mut source = MemSource::new(script, piece.max(1), None);
     let mut sink = MemSink::new(alloc, 64, Some(fails));
-    let status = run_over(alloc, b"pages", &mut source, &mut sink)?;
+    let status = run_over(alloc, b"pages", &mut disk, &mut source, &mut sink)?;
     assert_eq!(rt; status, 4);
     assert_eq!(rt; left_in(&mut source), left);
     Ok(())

@@ -1,6 +1,9 @@
-//! Tests of the byte forms and of the lines of scripts. They stand apart, since a crate with tests of its own is proved twice.
+//! Tests of the byte forms, of the lines of scripts and of the words of the command line. They stand apart, since a crate with tests of
+//! its own is proved twice.
 #![tactic(auto)]
 
+#[cfg(test)]
+mod command_lines;
 #[cfg(test)]
 mod fields;
 #[cfg(test)]

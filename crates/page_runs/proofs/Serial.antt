@@ -1,14 +1,11 @@
--- The acts of a script are in range, so that what they come to is serial.
-use Rattle.std.proofs.Common.{◌≡◌, ℕ, ◌+◌, true, false, Bool, cond, List, [], ◌∷◌, length, take, Option, Some, None, IfSome, refl}
+-- The acts of a script are in range.
+use Rattle.std.proofs.Common.{◌≡◌, ◌∙◌, ℕ, ◌+◌, true, false, Bool, cond, List, [], ◌∷◌, ◌++◌, length, take, drop, Option, Some, None, IfSome, refl, sym, ap, subst}
 use Rattle.std.specs.List.{filter_map, cons_option}
-use Rattle.std.proofs.lemmas.List.Elements.{All-cons, All-nil, All-take}
+use Rattle.std.proofs.lemmas.List.{take_at, take-append-drop}
+use Rattle.std.proofs.lemmas.List.Elements.{All-cons, All-nil, All-take, filter_map-append}
 use Rattle.std.proofs.lemmas.Option.{none-some}
 use Rattle.page_lines.specs.declared.lines.Act.{Act}
 use Rattle.page_lines.specs.Range.{IsInRange, AreInRange}
-use Rattle.page_lines.specs.Serial.{IsSerial}
-use Rattle.page_lines.specs.Legal.{IsLegalFrom}
-use Rattle.page_lines.specs.World.{zeros, start, world_after}
-use Rattle.page_lines.proofs.SerialRuns.{serial_from_start, legal_from_start}
 use Rattle.script.specs.declared.grammar.Act2.TheVariants as page
 use Rattle.script.specs.declared.grammar.Form.TheVariants.{Pages}
 use Rattle.script.specs.declared.grammar.Line.{Line}
@@ -17,7 +14,7 @@ use Rattle.script.specs.Line.{Spells}
 use Rattle.script.specs.Reading.{line_of}
 use Rattle.script.specs.Raw.{raw_lines, is_within, text_of_raw}
 use Rattle.script.proofs.Agreement.{line_of-found}
-use Rattle.page_runs.specs.Outcome.{act_in, line_in, line_before, lines_run, acts_run, run_of}
+use Rattle.page_runs.specs.Outcome.{act_in, line_in, line_before, lines_run, lines_of, acts_first}
 
 -- the act of a line that is in the grammar
 pub spelled_in_range : (said : Line) (text : List ℕ) → Spells Pages said text → IfSome (act_in said) IsInRange
@@ -50,12 +47,14 @@ lines_in_range passed (raw ∷ raws) =
     (λ said e. spelled_in_range said (text_of_raw raw) (line_of-found Pages (text_of_raw raw) said (tested_some (is_within passed raw) (line_of Pages (text_of_raw raw)) said e)))
     (lines_in_range (passed + length raw) raws)
 
--- the run of a script is serial, where a source tells one, and the history that it leaves is legal at each moment
-pub serial_told : (left : Option (List ℕ)) → IfSome left (λ script. IsSerial zeros (run_of script))
-serial_told None = tt
-serial_told (Some script) = serial_from_start (acts_run script) (lines_in_range 0 (raw_lines script))
-
-pub legal_told : (left : Option (List ℕ)) → IfSome left (λ script. (count : ℕ) → IsLegalFrom zeros (world_after start (take count (acts_run script))))
-legal_told None = tt
-legal_told (Some script) = λ count.
-    legal_from_start (take count (acts_run script)) (All-take IsInRange count (acts_run script) (lines_in_range 0 (raw_lines script)))
+-- the acts of its first lines are in range too
+pub first_in_range : (script : List ℕ) (count : ℕ) → AreInRange (acts_first script count)
+first_in_range script count = some_in_range (lines_of script) (lines_in_range 0 (raw_lines script))
+  where
+    some_in_range : (lines : List Line) → AreInRange (filter_map act_in lines) → AreInRange (filter_map act_in (take count lines))
+    some_in_range lines all =
+        let some = filter_map act_in (take count lines) in
+        let whole : filter_map act_in lines ≡ some ++ filter_map act_in (drop count lines) =
+        ap (filter_map act_in) (sym (take-append-drop count lines)) ∙ filter_map-append act_in (take count lines) (drop count lines) in
+        subst (λ (acts : List Act). AreInRange acts) (ap (take (length some)) whole ∙ take_at some (filter_map act_in (drop count lines)) (length some) refl)
+        (All-take IsInRange (length some) (filter_map act_in lines) all)

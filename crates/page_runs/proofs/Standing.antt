@@ -5,18 +5,16 @@ use Rattle.std.proofs.lemmas.List.Elements.{filter_map-append}
 use Rattle.std.proofs.lemmas.Option.{same_Some}
 use Rattle.disk_face.specs.Sink.{Puts}
 use Rattle.page_lines.specs.declared.lines.Act.{Act}
-use Rattle.page_lines.specs.Reply.{reply_text, session_of}
-use Rattle.page_lines.specs.World.{World, step, start, world_after}
+use Rattle.page_lines.specs.declared.lines.Told.{Told}
 use Rattle.script.specs.declared.grammar.Line.{Line}
 use Rattle.script.specs.Raw.{raw_lines}
-use Rattle.page_runs.specs.InMemory.{Memory, IsAt}
 use Rattle.page_runs.specs.Reading.{WhereTold}
-use Rattle.page_runs.specs.Outcome.{act_in, acts_in, replies, line_in, line_before, lines_run, is_refused, refused_text, text_of}
+use Rattle.page_runs.specs.Outcome.{act_in, acts_in, reply_of, replies, line_in, line_before, lines_run, is_refused}
 use Rattle.page_runs.proofs.Written.{Puts-more}
 use Rattle.page_runs.proofs.Fronts.{Puts-nothing}
 
--- So many lines of the script were run and answered, and the rest of it is left.
-pub record Standing (script : List ℕ) (number passed : ℕ) (left before now : Option (List ℕ)) (memory : Memory) : Type 0 where
+-- So many lines of the script were run and answered so, and the rest of it is left.
+pub record Standing (Answered : List Act → List Told → Type 0) (script : List ℕ) (number passed : ℕ) (left before now : Option (List ℕ)) : Type 0 where
   pub ran : List Line
   pub raws : List (List ℕ)
   pub rest : List ℕ
@@ -26,12 +24,15 @@ pub record Standing (script : List ℕ) (number passed : ℕ) (left before now :
   pub cut : raw_lines script ≡ raws ++ raw_lines rest
   pub lines : lines_run 0 (raw_lines script) ≡ ran ++ lines_run passed (raw_lines rest)
   pub refused : is_refused 0 (raw_lines script) ≡ is_refused passed (raw_lines rest)
-  pub written : Puts before (replies start (filter_map act_in ran)) now
-  pub world : IsAt memory (world_after start (filter_map act_in ran))
+  pub answers : List Told
+  pub long : length (filter_map act_in ran) ≡ length answers
+  pub answered : Answered (filter_map act_in ran) answers
+  pub written : Puts before (replies (filter_map act_in ran) answers) now
 
 -- a run that has begun
-pub Standing-start : (script : List ℕ) (left before : Option (List ℕ)) (memory : Memory) → left ≡ Some script → IsAt memory start → Standing script 1 0 left before before memory
-Standing-start script left before memory told world = record {
+pub Standing-start : (Answered : List Act → List Told → Type 0) (script : List ℕ) (left before : Option (List ℕ)) → left ≡ Some script → Answered [] []
+    → Standing Answered script 1 0 left before before
+Standing-start Answered script left before told none = record {
   ran = [];
   raws = [];
   rest = script;
@@ -41,8 +42,30 @@ Standing-start script left before memory told world = record {
   cut = refl;
   lines = refl;
   refused = refl;
+  answers = [];
+  long = refl;
+  answered = none;
   written = Puts-nothing before;
-  world = world;
+}
+
+-- the same with what follows from the answers
+pub standing_as : (Answered Other : List Act → List Told → Type 0) (script : List ℕ) (number passed : ℕ) (left before now : Option (List ℕ))
+    → ((acts : List Act) (answers : List Told) → Answered acts answers → Other acts answers)
+    → Standing Answered script number passed left before now → Standing Other script number passed left before now
+standing_as Answered Other script number passed left before now follows s = record {
+  ran = s.ran;
+  raws = s.raws;
+  rest = s.rest;
+  told = s.told;
+  count = s.count;
+  same = s.same;
+  cut = s.cut;
+  lines = s.lines;
+  refused = s.refused;
+  answers = s.answers;
+  long = s.long;
+  answered = follows (filter_map act_in s.ran) s.answers s.answered;
+  written = s.written;
 }
 
 -- what is left, where the source tells it
@@ -67,35 +90,19 @@ nothing_left held None e = e
 nothing_left held (Some bytes) e = ap Some (no_bytes held bytes (same_Some (held ++ bytes) [] e))
 
 -- replies to acts one after another
-pub replies-append : (world : World) (acts more : List Act) → replies world (acts ++ more) ≡ replies world acts ++ replies (world_after world acts) more
-replies-append world [] more = refl
-replies-append world (act ∷ acts) more =
-    let reply = reply_text (session_of act) (step world act).told in
-    ap (λ x. reply ++ x) (replies-append (step world act).world acts more)
-    ∙ sym (append_assoc reply (replies (step world act).world acts) (replies (world_after (step world act).world acts) more))
+pub replies-append : (acts more : List Act) (answers told : List Told) → length acts ≡ length answers
+    → replies (acts ++ more) (answers ++ told) ≡ replies acts answers ++ replies more told
+replies-append [] more [] told same = refl
+replies-append [] more (answer ∷ answers) told same = absurd (omega (arith, same))
+replies-append (act ∷ acts) more [] told same = absurd (omega (arith, same))
+replies-append (act ∷ acts) more (answer ∷ answers) told same =
+    let reply = reply_of (record { act = act; told = answer }) in
+    ap (λ x. reply ++ x) (replies-append acts more answers told (omega (arith, same)))
+    ∙ sym (append_assoc reply (replies acts answers) (replies more told))
 
-pub after-append : (world : World) (acts more : List Act) → world_after world (acts ++ more) ≡ world_after (world_after world acts) more
-after-append world [] more = refl
-after-append world (act ∷ acts) more = after-append (step world act).world acts more
-
--- the replies to lines that are run, with one line more
-pub replies-more : (ran : List Line) (line : Line) → replies start (filter_map act_in (ran ++ line ∷ [])) ≡ replies start (filter_map act_in ran) ++ replies (world_after start (filter_map act_in ran)) (acts_in line)
-replies-more ran line = ap (replies start) (filter_map-append act_in ran (line ∷ [])) ∙ replies-append start (filter_map act_in ran) (acts_in line)
-
-pub after-more : (ran : List Line) (line : Line) → world_after start (filter_map act_in (ran ++ line ∷ [])) ≡ world_after (world_after start (filter_map act_in ran)) (acts_in line)
-after-more ran line = ap (world_after start) (filter_map-append act_in ran (line ∷ [])) ∙ after-append start (filter_map act_in ran) (acts_in line)
-
--- the text of a run begins with the replies to its first lines
-pub text-front : (script : List ℕ) (ran more : List Line) → lines_run 0 (raw_lines script) ≡ ran ++ more → (last : List ℕ) × (replies start (filter_map act_in ran) ++ last ≡ text_of script)
-text-front script ran more e =
-    let acts = filter_map act_in ran in
-    let others = filter_map act_in more in
-    let last = cond (is_refused 0 (raw_lines script)) (refused_text (1 + length (lines_run 0 (raw_lines script)))) [] in
-    let all : replies start (filter_map act_in (lines_run 0 (raw_lines script))) ≡ replies start acts ++ replies (world_after start acts) others =
-    ap (λ x. replies start (filter_map act_in x)) e ∙ (ap (replies start) (filter_map-append act_in ran more) ∙ replies-append start acts others) in (
-      replies (world_after start acts) others ++ last,
-      sym (append_assoc (replies start acts) (replies (world_after start acts) others) last) ∙ ap (λ x. x ++ last) (sym all),
-    )
+-- the acts of lines that are run, with one line more
+pub acts-more : (ran : List Line) (line : Line) → filter_map act_in (ran ++ line ∷ []) ≡ filter_map act_in ran ++ acts_in line
+acts-more ran line = filter_map-append act_in ran (line ∷ [])
 
 -- the next line is taken
 pub lines-next : (passed : ℕ) (raw : List ℕ) (raws : List (List ℕ)) (line : Line) → line_in passed raw ≡ Some line → lines_run passed (raw ∷ raws) ≡ line ∷ lines_run (passed + length raw) raws
@@ -112,24 +119,34 @@ pub refused-stop : (passed : ℕ) (raw : List ℕ) (raws : List (List ℕ)) → 
 refused-stop passed raw raws e = ap (λ o. cond (is_some o) (is_refused (passed + length raw) raws) true) e
 
 -- the lines of a script, where the next of them is taken
-pub lines-more : (script : List ℕ) (number passed : ℕ) (left before now : Option (List ℕ)) (memory : Memory) (raw rest' : List ℕ) (line : Line) → (s : Standing script number passed left before now memory) → raw_lines s.rest ≡ raw ∷ raw_lines rest' → line_in passed raw ≡ Some line → lines_run 0 (raw_lines script) ≡ (s.ran ++ line ∷ []) ++ lines_run (passed + length raw) (raw_lines rest')
-lines-more script number passed left before now memory raw rest' line s first taken =
+pub lines-more : (Answered : List Act → List Told → Type 0) (script : List ℕ) (number passed : ℕ) (left before now : Option (List ℕ)) (raw rest' : List ℕ)
+    (line : Line) (s : Standing Answered script number passed left before now) → raw_lines s.rest ≡ raw ∷ raw_lines rest' → line_in passed raw ≡ Some line
+    → lines_run 0 (raw_lines script) ≡ (s.ran ++ line ∷ []) ++ lines_run (passed + length raw) (raw_lines rest')
+lines-more Answered script number passed left before now raw rest' line s first taken =
     s.lines ∙ (ap (λ x. s.ran ++ x) (ap (lines_run passed) first ∙ lines-next passed raw (raw_lines rest') line taken)
     ∙ sym (append_assoc s.ran (line ∷ []) (lines_run (passed + length raw) (raw_lines rest'))))
 
 -- one line more was run
-pub Standing-more : (script : List ℕ) (number passed passed' : ℕ) (left left' before now now' : Option (List ℕ)) (memory memory' : Memory) (raw rest' : List ℕ) (line : Line) → (s : Standing script number passed left before now memory) → left' ≡ Some rest' → raw_lines s.rest ≡ raw ∷ raw_lines rest' → passed' ≡ passed + length raw → line_in passed raw ≡ Some line → Puts now (replies (world_after start (filter_map act_in s.ran)) (acts_in line)) now' → IsAt memory' (world_after (world_after start (filter_map act_in s.ran)) (acts_in line)) → Standing script (number + 1) passed' left' before now' memory'
-Standing-more script number passed passed' left left' before now now' memory memory' raw rest' line s told first size taken written world = record {
+pub Standing-more : (Answered Then : List Act → List Told → Type 0) (script : List ℕ) (number passed passed' : ℕ) (left left' before now now' : Option (List ℕ))
+    (raw rest' : List ℕ) (line : Line) (told : List Told) (s : Standing Answered script number passed left before now) → left' ≡ Some rest'
+    → raw_lines s.rest ≡ raw ∷ raw_lines rest' → passed' ≡ passed + length raw → line_in passed raw ≡ Some line → length (acts_in line) ≡ length told
+    → Then (filter_map act_in s.ran ++ acts_in line) (s.answers ++ told) → Puts now (replies (acts_in line) told) now'
+    → Standing Then script (number + 1) passed' left' before now'
+Standing-more Answered Then script number passed passed' left left' before now now' raw rest' line told s left_is first size taken long then written = record {
   ran = s.ran ++ line ∷ [];
   raws = s.raws ++ raw ∷ [];
   rest = rest';
-  told = told;
+  told = left_is;
   count = omega (arith, s.count, length-append s.ran (line ∷ []));
   same = omega (arith, s.same, length-append s.ran (line ∷ []), length-append s.raws (raw ∷ []));
   cut = s.cut ∙ (ap (λ x. s.raws ++ x) first ∙ sym (append_assoc s.raws (raw ∷ []) (raw_lines rest')));
-  lines = lines-more script number passed left before now memory raw rest' line s first taken
+  lines = lines-more Answered script number passed left before now raw rest' line s first taken
       ∙ ap (λ p. (s.ran ++ line ∷ []) ++ lines_run p (raw_lines rest')) (sym size);
   refused = s.refused ∙ (ap (is_refused passed) first ∙ (refused-next passed raw (raw_lines rest') line taken ∙ ap (λ p. is_refused p (raw_lines rest')) (sym size)));
-  written = subst (λ x. Puts before x now') (sym (replies-more s.ran line)) (Puts-more before now now' (replies start (filter_map act_in s.ran)) (replies (world_after start (filter_map act_in s.ran)) (acts_in line)) s.written written);
-  world = subst (IsAt memory') (sym (after-more s.ran line)) world;
+  answers = s.answers ++ told;
+  long = ap length (acts-more s.ran line) ∙ omega (arith, length-append (filter_map act_in s.ran) (acts_in line), length-append s.answers told, s.long, long);
+  answered = subst (λ acts. Then acts (s.answers ++ told)) (sym (acts-more s.ran line)) then;
+  written = subst (λ acts. Puts before (replies acts (s.answers ++ told)) now') (sym (acts-more s.ran line))
+      (subst (λ x. Puts before x now') (sym (replies-append (filter_map act_in s.ran) (acts_in line) s.answers told s.long))
+      (Puts-more before now now' (replies (filter_map act_in s.ran) s.answers) (replies (acts_in line) told) s.written written));
 }

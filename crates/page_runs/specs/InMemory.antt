@@ -1,18 +1,16 @@
--- A store of pages in memory with its sessions stands at a world.
-use Rattle.std.specs.Prelude.{List, slice_get}
-use Rattle.acts.specs.declared.seats.Seat.{Seat}
-use Rattle.acts.specs.Pagers.{pins_of, AreSound}
-use Rattle.acts.specs.Standing.{StandsAt}
-use Rattle.memory_engine.specs.Plain.{PlainState, PlainLive, state_of}
-use Rattle.page_lines.specs.World.{World}
+-- How acts on pages in memory are answered.
+use Rattle.std.specs.Prelude.{◌≡◌, ℕ, List, take}
+use Rattle.page_lines.specs.declared.lines.Act.{Act}
+use Rattle.page_lines.specs.declared.lines.Told.{Told}
+use Rattle.page_lines.specs.Exchanges.{exchanged}
+use Rattle.page_lines.specs.Legal.{IsLegalFrom}
+use Rattle.page_lines.specs.Serial.{IsSerial}
+use Rattle.page_lines.specs.World.{zeros, start, world_after, answers_to}
 
--- what a store in memory holds: its engine, and the seats of its sessions
-pub record Memory : Type 0 where
-  pub plain : PlainState
-  pub seats : List Seat
-
--- The store in memory stands at the world, its sessions' transactions are sound, and their pins hold.
-pub record IsAt (memory : Memory) (world : World) : Type 0 where
-  pub stands : StandsAt (state_of memory.plain) (λ pin. slice_get memory.plain.maps pin.n) memory.seats world
-  pub sound : AreSound memory.plain.page_size memory.seats
-  pub live : PlainLive memory.plain (pins_of memory.seats)
+-- The answers are those of the run over whole page maps that begins with 16 pages of zeros. That run is serial: those that committed ran one
+-- after another, and at each moment all others had been told what they would have been told alone at their snapshot. And its history is
+-- legal at each moment: each commit leads from one map to the next.
+pub record IsAnsweredInMemory (acts : List Act) (answers : List Told) : Type 0 where
+  pub as_whole_maps : answers ≡ answers_to start acts
+  pub serial : IsSerial zeros (exchanged acts answers)
+  pub legal : (count : ℕ) → IsLegalFrom zeros (world_after start (take count acts))

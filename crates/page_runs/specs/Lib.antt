@@ -1,5 +1,6 @@
 pub mod Reading
 pub mod Status
-pub mod Reply
-pub mod InMemory
+pub mod Sessions
 pub mod Outcome
+pub mod InMemory
+pub mod Reply

@@ -11,6 +11,8 @@ code_of status.ScriptRefused = 1
 code_of status.WordsRefused = 2
 code_of status.SourceFailed = 3
 code_of status.SinkFailed = 4
+code_of status.DiskFailed = 5
+code_of status.DatabaseRefused = 6
 code_of status.NoMemory = 7
 
 -- the program ended with the number of a status of which this holds

@@ -1,58 +1,27 @@
-// A store of pages in memory with its sessions.
-ghost use Rattle.std.specs.Prelude.{◌≡◌, ◌≤◌, [], ◌∷◌, length, IfOk, OnErr};
+// A store of pages in memory, and a run over it.
+ghost use Rattle.std.specs.Prelude.{◌≡◌, ◌≤◌, [], ◌∷◌, length, IfOk};
 ghost use Rattle.page_spec.specs.PageMap.{page_size_of};
 ghost use Rattle.memory_engine.specs.Plain.{PlainLive, newest_of};
-ghost use Rattle.page_lines.specs.World.{World, zeros, start, step};
-ghost use Rattle.page_lines.specs.Range.{IsInRange};
-ghost use Rattle.page_runs.specs.InMemory.{Memory, IsAt};
+ghost use Rattle.page_lines.specs.World.{zeros};
+ghost use Rattle.page_runs.specs.Outcome.{RunEnds};
+ghost use Rattle.page_runs.specs.InMemory.{IsAnsweredInMemory};
 
-use acts::Pagers;
-use disk_face::Bytes;
+use crate::{Sessions, Status, run_pages};
+use disk_face::{Bytes, Sink, Source};
 use memory_engine::Plain;
-use page_lines::{Act, Raw, Told};
+use page_lines::Raw;
 use std::alloc::{AllocError, Global};
-use std::marker::Model;
 
-/// A store of 16 pages in memory, with the sessions of page lines that act on it.
-///
-/// Each act is answered as a run over whole page maps answers it: a contract sees at which world the store stands.
-#[derive(Drop)]
-pub struct InMemory {
-    plain: Plain<Raw>,
-    pagers: Pagers,
-}
-
-impl Model for InMemory {
-    ghost use Rattle.page_runs.specs.InMemory.{Memory};
-
-    ghost Value = { Memory };
-
-    ghost view = { λ memory. record { plain = memory.plain; seats = memory.pagers } };
-}
-
-impl InMemory {
-    /// A store of 16 pages of 4096 zeros, on which nothing has happened yet. The error is want of memory.
-    pub fn new(alloc: Global) -> Result<InMemory, AllocError>
-        ensures { IfOk result (λ memory. IsAt memory start) }
-    {
-        let plain = engine_of_zeros(alloc)?;
-        Ok(InMemory {
-            plain,
-            pagers: Pagers::new(alloc),
-        })
-    }
-
-    /// Acts. The error is want of memory, and leaves the store where it stood.
-    pub fn act(&mut self, act: Act) -> Result<Told, AllocError>
-        requires range { IsInRange act }
-        requires stands { (world : World) × IsAt self.old world }
-        ensures acts { (world : World) → IsAt self.old world
-            → IfOk result (λ told. (told ≡ (step world act).told) × IsAt self.new (step world act).world) }
-        ensures want { (world : World) → IsAt self.old world → OnErr result (IsAt self.new world) }
-        ensures stands { (world : World) × IsAt self.new world }
-    {
-        self.pagers.act(&mut self.plain, act)
-    }
+/// Runs the lines that the source gives over 16 pages of zeros in memory, each of which is answered before the next one is taken.
+pub fn run_in_memory<S: Source, K: Sink>(alloc: Global, src: &mut S, out: &mut K) -> Status
+    ensures run { RunEnds S.Source K.Sink IsAnsweredInMemory result src.old out.old src.new out.new }
+    ensures loans { (S.loans src.new ≡ S.loans src.old) × (K.loans out.new ≡ K.loans out.old) }
+{
+    let Ok(plain) = engine_of_zeros(alloc) else {
+        return Status::NoMemory;
+    };
+    let mut sessions = Sessions::new(alloc, plain);
+    run_pages(alloc, &mut sessions, src, out)
 }
 
 /// The engine of a new store. The error is want of memory.

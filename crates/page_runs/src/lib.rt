@@ -8,10 +8,12 @@ mod lines;
 mod output;
 mod pages;
 mod reply;
+mod sessions;
 mod status;
 
-pub use in_memory::{InMemory, engine_of_zeros};
+pub use in_memory::{engine_of_zeros, run_in_memory};
 pub use output::{say_last, write_all};
 pub use pages::run_pages;
 pub use reply::told_text;
+pub use sessions::Sessions;
 pub use status::Status;

@@ -1,20 +1,20 @@
-// A run of page lines over pages in memory. One line, its run and its reply come before the next line is taken.
-ghost use Rattle.std.specs.Prelude.{◌≡◌, ◌⊎◌, IfSome, OnOk, OnErr};
-ghost use Rattle.disk_face.specs.Sink.{Puts};
-ghost use Rattle.page_lines.specs.Reply.{reply_text, session_of};
-ghost use Rattle.page_lines.specs.World.{World, step, world_after};
-ghost use Rattle.page_runs.specs.InMemory.{IsAt};
+// A run of page lines over an engine. One line, its run and its reply come before the next line is taken.
+ghost use Rattle.std.specs.Prelude.{◌≡◌, ◌⊎◌, [], ◌∷◌, IfSome, OnOk, OnErr};
+ghost use Rattle.page_face.specs.Calls.{KeepsOpenings};
+ghost use Rattle.page_lines.specs.Reply.{session_of};
 ghost use Rattle.page_lines.specs.Range.{IsInRange};
 ghost use Rattle.page_runs.specs.declared.status.Status.TheVariants as status;
-ghost use Rattle.page_runs.specs.Outcome.{act_in, acts_in, page_act, replies, refused_text, PutsFront, RunEnds, SaysLast};
-ghost use Rattle.page_runs.specs.Reply.{CountsReply};
+ghost use Rattle.page_runs.specs.Outcome.{act_in, acts_in, page_act, refused_text, RunEnds, SaysLast};
+ghost use Rattle.page_runs.specs.Reply.{AnswersAct, AnswersActs, CountsReply, LeavesActs};
+ghost use Rattle.page_runs.specs.Sessions.{AnsweredOver};
 
 use crate::lines::{LineReader, Next};
 use crate::output::{say_last, write_all};
 use crate::reply::{refused_line, told_text};
-use crate::{InMemory, Status};
+use crate::{Sessions, Status};
 use disk_face::{Failed, Sink, Source};
-use page_lines::Act;
+use page_face::Engine;
+use page_lines::{Act, Raw};
 use script::{Act2, Form, Line, line_text, read_line};
 use std::alloc::Global;
 
@@ -28,13 +28,19 @@ enum Unanswered {
 }
 
 /// Runs the lines that the source gives, each of which is answered before the next one is taken.
-pub fn run_pages<S: Source, K: Sink>(alloc: Global, src: &mut S, out: &mut K) -> Status
-    ensures run { RunEnds S.Source K.Sink result src.old out.old src.new out.new }
-    ensures loans { (S.loans src.new ≡ S.loans src.old) × (K.loans out.new ≡ K.loans out.old) }
+/// It begins with no session, and leaves open what the lines left open.
+pub fn run_pages<E: Engine<Raw>, S: Source, K: Sink>(
+    alloc: Global,
+    sessions: &mut Sessions<E>,
+    src: &mut S,
+    out: &mut K,
+) -> Status
+    requires none { sessions.old.seats ≡ [] }
+    ensures run { RunEnds S.Source K.Sink (AnsweredOver E.EngineTells sessions.old.engine sessions.new.engine) result src.old out.old src.new out.new }
+    ensures opened { KeepsOpenings E.EngineTells sessions.old.engine sessions.new.engine }
+    ensures loans { (S.loans src.new ≡ S.loans src.old) × (K.loans out.new ≡ K.loans out.old)
+        × (E.loans sessions.new.engine ≡ E.loans sessions.old.engine) }
 {
-    let Ok(mut memory) = InMemory::new(alloc) else {
-        return Status::NoMemory;
-    };
     let Ok(mut lines) = LineReader::new(alloc) else {
         return Status::NoMemory;
     };
@@ -50,7 +56,7 @@ pub fn run_pages<S: Source, K: Sink>(alloc: Global, src: &mut S, out: &mut K) ->
         let Some(line) = read_line(line_text(lines.line()), Form::Pages) else {
             return say_refused(number, &mut text, out);
         };
-        match run_line(&mut memory, line, &mut text, out) {
+        match run_line(sessions, line, &mut text, out) {
             Ok(()) => number += 1,
             Err(Unanswered::Sink) => return Status::SinkFailed,
             Err(Unanswered::Memory) => return Status::NoMemory,
@@ -60,23 +66,21 @@ pub fn run_pages<S: Source, K: Sink>(alloc: Global, src: &mut S, out: &mut K) ->
 
 /// Does what the line asks for, if it asks for something, and writes the reply, whose text is made in this buffer.
 /// After an error a front of the reply is written.
-fn run_line<K: Sink>(
-    memory: &mut InMemory,
+fn run_line<E: Engine<Raw>, K: Sink>(
+    sessions: &mut Sessions<E>,
     line: Line,
     text: &mut Vec<u8>,
     out: &mut K,
 ) -> Result<(), Unanswered>
     requires range { IfSome (act_in line) IsInRange }
-    requires stands { (world : World) × IsAt memory.old world }
-    ensures ok { (world : World) → IsAt memory.old world → OnOk result (IsAt memory.new (world_after world (acts_in line))
-        × Puts (K.written out.old) (replies world (acts_in line)) (K.written out.new)) }
-    ensures err { (world : World) → IsAt memory.old world
-        → OnErr result (PutsFront (K.written out.old) (replies world (acts_in line)) (K.written out.new)) }
+    ensures ok { OnOk result (AnswersActs E.EngineTells sessions.old (acts_in line) sessions.new (K.written out.old) (K.written out.new)) }
+    ensures err { OnErr result (LeavesActs E.EngineTells sessions.old (acts_in line) sessions.new (K.written out.old) (K.written out.new)) }
+    ensures opened { KeepsOpenings E.EngineTells sessions.old.engine sessions.new.engine }
     ensures faults { CountsReply result (K.faults out.old) (K.faults out.new) }
-    ensures loans { K.loans out.new ≡ K.loans out.old }
+    ensures loans { (K.loans out.new ≡ K.loans out.old) × (E.loans sessions.new.engine ≡ E.loans sessions.old.engine) }
 {
     match act_in(line) {
-        Some(act) => answer(memory, act, text, out),
+        Some(act) => answer(sessions, act, text, out),
         None => Ok(()),
     }
 }
@@ -125,28 +129,26 @@ fn session_of(act: Act) -> u32
 
 /// Does what the act asks for, and writes the reply, whose text is made in this buffer.
 /// After an error a front of the reply is written.
-fn answer<K: Sink>(
-    memory: &mut InMemory,
+fn answer<E: Engine<Raw>, K: Sink>(
+    sessions: &mut Sessions<E>,
     act: Act,
     text: &mut Vec<u8>,
     out: &mut K,
 ) -> Result<(), Unanswered>
     requires range { IsInRange act }
-    requires stands { (world : World) × IsAt memory.old world }
-    ensures ok { (world : World) → IsAt memory.old world → OnOk result (IsAt memory.new (step world act).world
-        × Puts (K.written out.old) (reply_text (session_of act) (step world act).told) (K.written out.new)) }
-    ensures err { (world : World) → IsAt memory.old world
-        → OnErr result (PutsFront (K.written out.old) (reply_text (session_of act) (step world act).told) (K.written out.new)) }
+    ensures ok { OnOk result (AnswersAct E.EngineTells sessions.old act sessions.new (K.written out.old) (K.written out.new)) }
+    ensures err { OnErr result (LeavesActs E.EngineTells sessions.old (act ∷ []) sessions.new (K.written out.old) (K.written out.new)) }
+    ensures opened { KeepsOpenings E.EngineTells sessions.old.engine sessions.new.engine }
     ensures faults { CountsReply result (K.faults out.old) (K.faults out.new) }
-    ensures loans { K.loans out.new ≡ K.loans out.old }
+    ensures loans { (K.loans out.new ≡ K.loans out.old) × (E.loans sessions.new.engine ≡ E.loans sessions.old.engine) }
 {
-    let Ok(told) = memory.act(act) else {
+    let Ok(told) = sessions.act(act) else {
         return Err(Unanswered::Memory);
     };
     text.clear();
-    if told_text(session_of(act), &told, text).is_err() {
+    let Ok(()) = told_text(session_of(act), &told, text) else {
         return Err(Unanswered::Memory);
-    }
+    };
     match write_all(out, text) {
         Ok(()) => Ok(()),
         Err(Failed) => Err(Unanswered::Sink),

@@ -15,6 +15,10 @@ pub enum Status {
     SourceFailed,
     /// The sink failed.
     SinkFailed,
+    /// The disk failed while the database was opened, and the last line written says so.
+    DiskFailed,
+    /// The database isn't opened, and the last line written says why.
+    DatabaseRefused,
     /// Memory ran out.
     NoMemory,
 }
@@ -30,6 +34,8 @@ impl Status {
             Status::WordsRefused => 2,
             Status::SourceFailed => 3,
             Status::SinkFailed => 4,
+            Status::DiskFailed => 5,
+            Status::DatabaseRefused => 6,
             Status::NoMemory => 7,
         }
     }

@@ -13,6 +13,10 @@ mod model;
 #[cfg(test)]
 mod quiet;
 #[cfg(test)]
+mod reasons;
+#[cfg(test)]
 mod rows;
+#[cfg(test)]
+mod sides;
 #[cfg(test)]
 mod trial;

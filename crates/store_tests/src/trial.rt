@@ -31,8 +31,8 @@ fn is_in_range(act: Act) -> bool
     }
 }
 
-// The acts of these lines. One that names another page is left out.
-fn acts_of(alloc: Global, lines: &[Line]) -> Result<Vec<Act>, AllocError>
+/// The acts of these lines. One that names another page is left out.
+pub fn acts_of(alloc: Global, lines: &[Line]) -> Result<Vec<Act>, AllocError>
     ensures { IfOk result (λ acts. All IsInRange acts.items) }
 {
     let mut acts = Vec::new(alloc);

@@ -1,0 +1,4 @@
+pub mod Given
+pub mod Why
+pub mod Plays
+pub mod Opens
