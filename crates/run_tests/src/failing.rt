@@ -1,5 +1,5 @@
 // A script of which each call of the disk fails in turn, and which stops after each call: what is written then, and what the files are read as again.
-ghost use Rattle.std.specs.Prelude.{◌≡◌, false, IfOk};
+ghost use Rattle.std.specs.Prelude.{◌≡◌, false};
 
 use crate::plain::Plain;
 use crate::rows::{READS, ROWS};
@@ -102,45 +102,21 @@ fn after(status: Status, written: &[u8]) -> Option<Plain> {
     }
 }
 
-/// Whether these files are read as the plain store allows.
-fn recovers(alloc: Global, left: &mut MemDisk, plain: &Plain) -> Result<bool, AllocError>
-    requires { left.old.attached ≡ false }
-{
-    let (status, written) = run(alloc, left, READS.to_vec(alloc)?)?;
+/// Whether the files that a crash leaves with this pick are read as the plain store allows.
+fn recovers(alloc: Global, disk: &MemDisk, pick: &[u8], plain: &Plain) -> Result<bool, AllocError> {
+    let mut left = disk.crash(pick)?;
+    let (status, written) = run(alloc, &mut left, READS.to_vec(alloc)?)?;
     Ok(status == Status::Done && plain.recovers(alloc, &written)?)
 }
 
-/// A file whose bytes a crash may leave so or so, without its end, of which nothing is sure.
-fn cut(alloc: Global, zeros: &[u8], ones: &[u8]) -> Result<Vec<u8>, AllocError> {
-    let mut bytes = zeros.to_vec(alloc)?;
-    while !bytes.is_empty() && bytes.last() != ones.get(bytes.len() - 1) {
-        bytes.pop();
-    }
-    Ok(bytes)
-}
-
-/// Files that end where nothing of them is sure any more.
-fn cut_files(alloc: Global, zeros: &MemDisk, ones: &MemDisk) -> Result<MemDisk, AllocError>
-    ensures { IfOk result (λ disk. disk.attached ≡ false) }
-{
-    let main = cut(alloc, zeros.file(File::Main), ones.file(File::Main))?;
-    let log1 = cut(alloc, zeros.file(File::Log1), ones.file(File::Log1))?;
-    let log2 = cut(alloc, zeros.file(File::Log2), ones.file(File::Log2))?;
-    Ok(MemDisk::new(alloc, main, log1, log2, Vec::new(alloc)))
-}
-
-/// The same of what a crash leaves: what was written, zeros, bytes of all ones, and files that are cut.
+/// The same where a crash leaves what was written, zeros, and bytes of all ones.
 fn recovers_each(alloc: Global, disk: &MemDisk, plain: &Plain) -> Result<bool, AllocError> {
     let zeros = vec![in alloc; 0; UNSURE]?;
     let ones = vec![in alloc; 255; UNSURE]?;
-    let mut of_zeros = disk.crash(&zeros)?;
-    let mut of_ones = disk.crash(&ones)?;
-    let mut short = cut_files(alloc, &of_zeros, &of_ones)?;
     Ok(
-        recovers(alloc, &mut disk.crash(&[])?, plain)?
-            && recovers(alloc, &mut short, plain)?
-            && recovers(alloc, &mut of_zeros, plain)?
-            && recovers(alloc, &mut of_ones, plain)?,
+        recovers(alloc, disk, &[], plain)?
+            && recovers(alloc, disk, &zeros, plain)?
+            && recovers(alloc, disk, &ones, plain)?,
     )
 }
 
