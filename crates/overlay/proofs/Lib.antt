@@ -1,0 +1,10 @@
+pub mod ImageLaws
+pub mod Searching
+pub mod FreedLaws
+pub mod LayerLaws
+pub mod Numbers
+pub mod InOrder
+pub mod PartsLaws
+pub mod Reading
+pub mod Writing
+pub mod SamePages

@@ -1,0 +1,221 @@
+-- What a page that is put, made or given up changes of what stands over a world, and of the free numbers.
+use Rattle.std.proofs.Common.{◌≡◌, ◌∙◌, ℕ, ◌+◌, ◌*◌, ◌<◌, ◌≤◌, ◌^◌, Bool, true, false, eqb, List, length, replicate, Option, Some, refl, sym, subst, ap, inl, inr, arith, rules, eq-eqb}
+use Rattle.std.specs.Prelude.{◌||◌, ◌⊎◌, Contains, All, IfSome, is_some, unwrap_or}
+use Rattle.std.proofs.lemmas.Bool.{cases_eq, cases_lt, ne_eqb, lt-ltb, le-ltb}
+use Rattle.std.proofs.lemmas.List.{length-replicate}
+use Rattle.std.proofs.lemmas.List.Elements.{All-contains, All-from_recursion}
+use Rattle.page_spec.specs.PageMap.{page_sizes}
+use Rattle.page_spec.specs.View.{View, view_with}
+use Rattle.engine_spec.specs.declared.pins.Pin.{Pin}
+use Rattle.engine_spec.specs.declared.commits.PageImage.{PageImage}
+use Rattle.engine_spec.specs.Change.{Change, image_of}
+use Rattle.engine_spec.specs.PageSet.{with_page}
+use Rattle.engine_spec.proofs.PageSets.{with_has, with_keeps, with_cases}
+use Rattle.page_face.specs.declared.engine_tells.EngineTells.{Ghosts}
+use Rattle.overlay.specs.Images.{with_put}
+use Rattle.overlay.specs.Overlay.{OverlayState, own_image, has_own, over_change, with_own, with_new, with_freed_page, last_page, IsInOrder}
+use Rattle.overlay.specs.Live.{IsFreeNumber, greatest_page, AreWhole, IsOfPin}
+use Rattle.overlay.specs.Behind.{IsStill}
+use Rattle.overlay.proofs.ImageLaws.{image_put, image_other, all_put}
+
+-- a page that is put is one of its own
+own_put : (change : Change) (page : ℕ) (bytes : List ℕ) → own_image (with_own change page bytes) page ≡ Some bytes
+own_put change page bytes = elim (cases_lt change.base page) [
+  | inl past ↦ rw (lt-ltb change.base page past, lt-ltb change.base page past) (image_put change.fresh page bytes)
+  | inr below ↦ rw (le-ltb change.base page below, le-ltb change.base page below) (image_put change.changed page bytes)
+]
+
+-- and the others are as before
+own_other : (change : Change) (page : ℕ) (bytes : List ℕ) (number : ℕ) → (number ≡ page → ⊥)
+    → own_image (with_own change page bytes) number ≡ own_image change number
+own_other change page bytes number apart = elim (cases_lt change.base page) [
+  | inl past ↦ rw (lt-ltb change.base page past) (elim (cases_lt change.base number) [
+    | inl above ↦ rw (lt-ltb change.base number above) (image_other change.fresh page bytes number apart)
+    | inr under ↦ rw (le-ltb change.base number under) refl
+  ])
+  | inr below ↦ rw (le-ltb change.base page below) (elim (cases_lt change.base number) [
+    | inl above ↦ rw (lt-ltb change.base number above) refl
+    | inr under ↦ rw (le-ltb change.base number under) (image_other change.changed page bytes number apart)
+  ])
+]
+
+-- what stands over a world then
+pub over_put : (change : Change) (page : ℕ) (bytes : List ℕ) (world : View) (number : ℕ)
+    → over_change (with_own change page bytes) world number ≡ view_with (over_change change world) page bytes number
+over_put change page bytes world number = elim (cases_eq number page) [
+  | inl same ↦
+      rw (eq-eqb number page same)
+      (subst (λ (n : ℕ). over_change (with_own change page bytes) world n ≡ bytes) (sym same)
+      (ap (λ held. unwrap_or held (world page)) (own_put change page bytes)))
+  | inr apart ↦ rw (ne_eqb number page apart) (ap (λ held. unwrap_or held (world number)) (own_other change page bytes number apart))
+]
+
+-- which pages are its own then
+pub has_put : (change : Change) (page : ℕ) (bytes : List ℕ) (number : ℕ)
+    → has_own (with_own change page bytes) number ≡ (has_own change number || eqb number page)
+has_put change page bytes number = elim (cases_eq number page) [
+  | inl same ↦
+      rw (eq-eqb number page same)
+      (subst (λ (n : ℕ). has_own (with_own change page bytes) n ≡ true) (sym same) (ap is_some (own_put change page bytes))
+      ∙ or_true (has_own change number))
+  | inr apart ↦ rw (ne_eqb number page apart) (ap is_some (own_other change page bytes number apart) ∙ or_false (has_own change number))
+]
+  where
+    or_true : (b : Bool) → true ≡ (b || true)
+    or_true true = refl
+    or_true false = refl
+
+    or_false : (b : Bool) → b ≡ (b || false)
+    or_false true = refl
+    or_false false = refl
+
+-- none that was is forgotten
+pub has_still : (change : Change) (page : ℕ) (bytes : List ℕ) (number : ℕ) → has_own change number ≡ true
+    → has_own (with_own change page bytes) number ≡ true
+has_still change page bytes number has = has_put change page bytes number ∙ ap (λ (b : Bool). b || eqb number page) has
+
+-- the pages that were given up are the same
+same_freed : (change : Change) (page : ℕ) (bytes : List ℕ) → (with_own change page bytes).freed ≡ change.freed
+same_freed change page bytes = elim (cases_lt change.base page) [
+  | inl past ↦ rw (lt-ltb change.base page past) refl
+  | inr below ↦ rw (le-ltb change.base page below) refl
+]
+
+-- a number is free as before
+pub free_put : (change : Change) (page : ℕ) (bytes : List ℕ) (number : ℕ) → last_page (with_own change page bytes) ≡ last_page change
+    → IsFreeNumber change number → IsFreeNumber (with_own change page bytes) number
+free_put change page bytes number last free = elim free [
+  | inl past ↦ inl (omega (arith, last, past.0), past.1)
+  | inr there ↦ inr (subst (λ (freed : List ℕ). Contains freed number) (sym (same_freed change page bytes)) there)
+]
+
+pub unfree_put : (change : Change) (page : ℕ) (bytes : List ℕ) (number : ℕ) → last_page (with_own change page bytes) ≡ last_page change
+    → IsFreeNumber (with_own change page bytes) number → IsFreeNumber change number
+unfree_put change page bytes number last free = elim free [
+  | inl past ↦ inl (omega (arith, last, past.0), past.1)
+  | inr there ↦ inr (subst (λ (freed : List ℕ). Contains freed number) (same_freed change page bytes) there)
+]
+
+-- the transaction is the same
+pub still_put : (overlay : OverlayState) (page : ℕ) (bytes : List ℕ) → IsStill overlay (record overlay { change = with_own overlay.change page bytes })
+still_put overlay page bytes = elim (cases_lt overlay.change.base page) [
+  | inl past ↦ rw (lt-ltb overlay.change.base page past) (record { snap = refl; mode = refl; base = refl; marked = refl; wrote = refl })
+  | inr below ↦ rw (le-ltb overlay.change.base page below) (record { snap = refl; mode = refl; base = refl; marked = refl; wrote = refl })
+]
+
+-- its pages are whole
+whole_put : (change : Change) (size page : ℕ) (bytes : List ℕ) → length bytes ≡ size → AreWhole size change → AreWhole size (with_own change page bytes)
+whole_put change size page bytes whole all = elim (cases_lt change.base page) [
+  | inl past ↦
+      rw (lt-ltb change.base page past)
+      (record { changed = all.changed; fresh = all_put (λ (image : PageImage). length image.bytes ≡ size) change.fresh page bytes all.fresh whole })
+  | inr below ↦
+      rw (le-ltb change.base page below)
+      (record { changed = all_put (λ (image : PageImage). length image.bytes ≡ size) change.changed page bytes all.changed whole; fresh = all.fresh })
+]
+
+module _ {E M : Type 0} (told : Ghosts E M) (engine : E) (pin : Pin) (overlay : OverlayState) (ready : IsOfPin told engine pin overlay) where
+  -- the pages may be read with one put
+  pub of_pin_put : (page : ℕ) (bytes : List ℕ) → length bytes ≡ (told.state engine).page_size
+      → IsOfPin told engine pin (record overlay { change = with_own overlay.change page bytes })
+  of_pin_put page bytes whole = record {
+    hold = ready.hold;
+    snap = ready.snap;
+    base = ready.base ∙ sym ((still_put overlay page bytes).base);
+    whole = whole_put overlay.change (told.state engine).page_size page bytes whole ready.whole;
+    marked = ready.marked;
+  }
+
+  -- and with one made
+  pub of_pin_new : IsOfPin told engine pin (record overlay { change = with_new overlay.change (told.state engine).page_size })
+  of_pin_new = record {
+    hold = ready.hold;
+    snap = ready.snap;
+    base = ready.base;
+    whole = record {
+      changed = ready.whole.changed;
+      fresh = all_put (λ (image : PageImage). length image.bytes ≡ (told.state engine).page_size) overlay.change.fresh (last_page overlay.change + 1)
+          (replicate (told.state engine).page_size 0) ready.whole.fresh (length-replicate (told.state engine).page_size 0);
+    };
+    marked = ready.marked;
+  }
+
+  -- and with one given up
+  pub of_pin_freed : (page : ℕ) → IsOfPin told engine pin (record overlay { change = with_freed_page overlay.change page })
+  of_pin_freed page = record {
+    hold = ready.hold;
+    snap = ready.snap;
+    base = ready.base;
+    whole = record { changed = ready.whole.changed; fresh = ready.whole.fresh };
+    marked = ready.marked;
+  }
+
+-- a page that is made changes no other one
+pub own_made : (change : Change) (size number : ℕ) → (number ≡ last_page change + 1 → ⊥) → own_image (with_new change size) number ≡ own_image change number
+own_made change size number apart = elim (cases_lt change.base number) [
+  | inl above ↦ rw (lt-ltb change.base number above) (image_other change.fresh (last_page change + 1) (replicate size 0) number apart)
+  | inr under ↦ rw (le-ltb change.base number under) refl
+]
+
+pub over_made : (change : Change) (size : ℕ) (world : View) (number : ℕ) → (number ≡ last_page change + 1 → ⊥)
+    → over_change (with_new change size) world number ≡ over_change change world number
+over_made change size world number apart = ap (λ held. unwrap_or held (world number)) (own_made change size number apart)
+
+-- none that was its own is forgotten
+pub has_made : (change : Change) (size number : ℕ) → has_own change number ≡ true → has_own (with_new change size) number ≡ true
+has_made change size number has = elim (cases_eq number (last_page change + 1)) [
+  | inl same ↦
+      (let past : change.base < number = omega (arith, same) in
+      rw (lt-ltb change.base number past)
+      (subst (λ (n : ℕ). is_some (image_of (with_new change size).fresh n) ≡ true) (sym same)
+      (ap is_some (image_put change.fresh (last_page change + 1) (replicate size 0)))))
+  | inr apart ↦ ap is_some (own_made change size number apart) ∙ has
+]
+
+module _ (change : Change) (size : ℕ) (last : last_page (with_new change size) ≡ last_page change + 1) where
+  -- what is its own was so, or is the new page
+  pub has_before : (number : ℕ) → has_own (with_new change size) number ≡ true → (has_own change number ≡ true) ⊎ (number ≡ last_page change + 1)
+  has_before number has = elim (cases_eq number (last_page change + 1)) [
+    | inl same ↦ inr same
+    | inr apart ↦ inl (sym (ap is_some (own_made change size number apart)) ∙ has)
+  ]
+
+  -- the new page isn't free
+  pub made_unfree : IsInOrder change → IsFreeNumber (with_new change size) (last_page change + 1) → ⊥
+  made_unfree order free = elim free [
+    | inl past ↦ omega (arith, last, past.0)
+    | inr there ↦ (let low = All-contains (λ (page : ℕ). page ≤ last_page change) change.freed (last_page change + 1) order.there there in omega arith)
+  ]
+
+  -- the others are free as before
+  pub free_made : (number : ℕ) → (number ≡ last_page change + 1 → ⊥) → IsFreeNumber change number → IsFreeNumber (with_new change size) number
+  free_made number apart free = elim free [
+    | inl past ↦ inl (omega (arith, last, past.0, apart), past.1)
+    | inr there ↦ inr there
+  ]
+
+  pub unfree_made : (number : ℕ) → IsFreeNumber (with_new change size) number → IsFreeNumber change number
+  unfree_made number free = elim free [
+    | inl past ↦ inl (omega (arith, last, past.0), past.1)
+    | inr there ↦ inr there
+  ]
+
+-- a page that is given up is free, and the others are as before
+pub freed_free : (change : Change) (page : ℕ) → IsFreeNumber (with_freed_page change page) page
+freed_free change page = inr (with_has change.freed page)
+
+pub free_freed : (change : Change) (page number : ℕ) → IsFreeNumber change number → IsFreeNumber (with_freed_page change page) number
+free_freed change page number free = elim free [ inl past ↦ inl past | inr there ↦ inr (with_keeps change.freed page number there) ]
+
+pub unfree_freed : (change : Change) (page number : ℕ) → (number ≡ page → ⊥) → IsFreeNumber (with_freed_page change page) number → IsFreeNumber change number
+unfree_freed change page number apart free = elim free [
+  | inl past ↦ inl past
+  | inr there ↦ elim (with_cases change.freed page number there) [ inl same ↦ absurd (apart same) | inr others ↦ inr others ]
+]
+
+-- a legal page size
+pub size_from : (size : ℕ) → Contains page_sizes size → 512 ≤ size
+size_from size there = All-contains (λ (n : ℕ). 512 ≤ n) page_sizes size (All-from_recursion (λ (n : ℕ). 512 ≤ n) page_sizes (search rules)) there
+
+pub size_to : (size : ℕ) → Contains page_sizes size → size ≤ 65536
+size_to size there = All-contains (λ (n : ℕ). n ≤ 65536) page_sizes size (All-from_recursion (λ (n : ℕ). n ≤ 65536) page_sizes (search rules)) there

@@ -1,0 +1,10 @@
+pub mod Runs
+pub mod Places
+pub mod Images
+pub mod Layers
+pub mod FreedPages
+pub mod Overlay
+pub mod Parts
+pub mod Live
+pub mod Behind
+pub mod BehindLaws
