@@ -18,6 +18,14 @@ ROWS = [(10 * k, 7 * k, ("%03d " % k) * (150 if k == 5 else 25)) for k in range(
 
 ENTRIES = [(k, str(k) * (300 if k == 5 else 56)) for k in range(1, 10)]
 
+# what src/scans.rt scans of the index
+SCANS = [
+    ("1", range(1, 10)),
+    ("c >= '%s' AND c <= '7'" % ("3" * 56), range(3, 7)),
+    ("(c, rowid) >= ('%s', 8) AND c <= '%s'" % ("7" * 56, "9" * 56), range(8, 10)),
+    ("c >= '4'", range(4, 10)),
+]
+
 
 def main():
     with tempfile.TemporaryDirectory() as folder:
@@ -34,6 +42,8 @@ def main():
         assert db.execute("PRAGMA integrity_check").fetchone() == ("ok",)
         roots = [row[0] for row in db.execute("SELECT rootpage FROM sqlite_schema ORDER BY name")]
         assert db.execute("SELECT rowid, a, b FROM t ORDER BY rowid").fetchall() == ROWS
+        for where, numbers in SCANS:
+            assert db.execute("SELECT rowid FROM v WHERE %s ORDER BY c, rowid" % where).fetchall() == [(k,) for k in numbers]
         db.close()
         data = open(path, "rb").read()
     pages = [data[at:at + 512] for at in range(0, len(data), 512)]

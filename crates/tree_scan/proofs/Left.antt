@@ -1,16 +1,13 @@
 -- What is left of one page.
-use Rattle.std.proofs.Common.{◌≡◌, ℕ, ℤ, zero, suc, ◌<◌, ◌≤◌, ◌<ℤ◌, ◌≤ℤ◌, Bool, true, false, List, [], ◌∷◌, ◌++◌, length, refl, sym, subst, ap, ◌∙◌, arith, append-nil, append_assoc}
-use Rattle.std.proofs.lemmas.Int.{ints}
+use Rattle.std.proofs.Common.{◌≡◌, ℕ, zero, suc, ◌<◌, ◌≤◌, Bool, true, false, List, [], ◌∷◌, ◌++◌, length, refl, sym, subst, ap, ◌∙◌, arith, append-nil}
 use Rattle.std.specs.Prelude.{slice_index_or}
 use Rattle.node_spec.specs.Cells.{NodeCell}
 use Rattle.node_spec.specs.Kinds.{is_leaf}
 use Rattle.node_spec.specs.Nodes.{Node, no_cell}
 use Rattle.tree_spec.specs.Shown.{Shown}
-use Rattle.tree_spec.specs.Layout.{Each, Item, chains}
-use Rattle.tree_spec.specs.Trees.{IsItem, AreUnder, AreDivided, IsOwn, IsChild, Content}
+use Rattle.tree_spec.specs.Layout.{Item, chains}
+use Rattle.tree_spec.specs.Trees.{IsItem, AreUnder, IsChild, Content}
 use Rattle.tree_read.specs.Ways.{child_at}
-use Rattle.tree_read.proofs.Around.{weaker}
-use Rattle.tree_read.proofs.Levels.{not_both}
 use Rattle.tree_scan.specs.Coming.{LeftItems, LeftUnder, LeftBehind, LeftFrom, Rests}
 
 -- the item at a place, and those behind it
@@ -44,9 +41,6 @@ no_item table usable last shown zero (cell ∷ cells) items past left = absurd (
 no_item table usable last shown (suc place) [] items past left = left
 no_item table usable last shown (suc place) (cell ∷ cells) items past left = no_item table usable last shown place cells items (omega (arith, past)) left
 
-pub at_most : (low middle high : ℤ) → low ≤ℤ middle → middle <ℤ high → low ≤ℤ high
-at_most low middle high p q = omega (arith, ints)
-
 -- what is under the child at a place, and behind it
 pub record FirstChild (table : Bool) (usable last : ℕ) (shown : Shown) (IsSub : ℕ → List ℕ → List Item → Type 0) (place : ℕ) (cells : List NodeCell) (right : ℕ) (own : List ℕ)
     (items : List Item) : Type 0 where
@@ -58,14 +52,6 @@ pub record FirstChild (table : Bool) (usable last : ℕ) (shown : Shown) (IsSub 
   pub items_are : items ≡ under ++ rest
   pub sub : IsSub (child_at cells right place) under_own under
   pub left : LeftBehind table usable last shown IsSub place cells right rest_own rest
-  pub over : table ≡ true → (rowid : ℤ) → (place < length cells → rowid ≤ℤ (slice_index_or cells place no_cell).rowid) → Each (λ (item : Item). rowid ≤ℤ item.key) rest
-
-over_cell : (table : Bool) (usable last : ℕ) (shown : Shown) (cell : NodeCell) (under middle rest : List Item) (rowid : ℤ) → table ≡ true → rowid ≤ℤ cell.rowid
-    → IsOwn table usable last shown cell middle → AreDivided table cell under rest → Each (λ (item : Item). rowid ≤ℤ item.key) (middle ++ rest)
-over_cell false usable last shown cell under middle rest rowid is most own divided = absurd (not_both false is refl)
-over_cell true usable last shown cell under middle rest rowid is most own divided =
-    subst (λ (l : List Item). Each (λ (item : Item). rowid ≤ℤ item.key) (l ++ rest)) (sym own)
-    (weaker (λ (item : Item). cell.rowid <ℤ item.key) (λ (item : Item). rowid ≤ℤ item.key) rest (λ item above. at_most rowid cell.rowid item.key most above) divided.1)
 
 pub first_child : (table : Bool) (usable last : ℕ) (shown : Shown) (IsSub : ℕ → List ℕ → List Item → Type 0) (place : ℕ) (cells : List NodeCell) (right : ℕ) (own : List ℕ)
     (items : List Item) → place ≤ length cells → LeftUnder table usable last shown IsSub place cells right own items
@@ -79,7 +65,6 @@ first_child table usable last shown IsSub zero [] right own items inside left = 
   items_are = sym (append-nil items);
   sub = left;
   left = (refl, refl);
-  over = λ is rowid most. tt;
 }
 first_child table usable last shown IsSub zero (cell ∷ cells) right own items inside left = record {
   under_own = left.under_own;
@@ -98,7 +83,6 @@ first_child table usable last shown IsSub zero (cell ∷ cells) right own items 
     middle_is = left.middle_is;
     others = left.others;
   };
-  over = λ is rowid most. over_cell table usable last shown cell left.under left.middle left.rest rowid is (most (omega arith)) left.middle_is left.divided;
 }
 first_child table usable last shown IsSub (suc place) [] right own items inside left = absurd (omega (arith, inside))
 first_child table usable last shown IsSub (suc place) (cell ∷ cells) right own items inside left =
@@ -112,7 +96,6 @@ first_child table usable last shown IsSub (suc place) (cell ∷ cells) right own
       items_are = found.items_are;
       sub = found.sub;
       left = found.left;
-      over = λ is rowid most. found.over is rowid (λ less. most (omega (arith, less)));
     }
 
 -- in a table a cell lists nothing

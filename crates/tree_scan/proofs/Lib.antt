@@ -1,11 +1,15 @@
 pub mod Lasts
 pub mod Left
 pub mod Within
+pub mod Cells
 pub mod Paths
+pub mod Parts
+pub mod Seeks
 pub mod Shows
+pub mod Places
 pub mod Taking
 pub mod Cursors
-pub mod Seeks
 pub mod Calls
 pub mod Soundness
 pub mod Reading
+pub mod Splits

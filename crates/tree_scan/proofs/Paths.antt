@@ -1,5 +1,5 @@
 -- Steps of a path: a level of which nothing is left, the item of a cell that comes next, the child that comes next.
-use Rattle.std.proofs.Common.{◌≡◌, ℕ, zero, suc, ◌<◌, ◌≤◌, Bool, true, false, List, [], ◌∷◌, ◌++◌, length, Some, inl, inr, refl, sym, subst, ap, ◌∙◌, append_assoc}
+use Rattle.std.proofs.Common.{◌≡◌, ℕ, zero, suc, ◌+◌, ◌<◌, ◌≤◌, Bool, true, false, List, [], ◌∷◌, ◌++◌, length, Some, inl, inr, refl, sym, subst, ap, ◌∙◌, arith, append_assoc, append-nil}
 use Rattle.std.specs.Prelude.{◌⊎◌}
 use Rattle.node_spec.specs.Cells.{NodeCell}
 use Rattle.node_spec.specs.Kinds.{is_leaf}
@@ -11,9 +11,9 @@ use Rattle.tree_read.specs.Ways.{child_at}
 use Rattle.tree_read.proofs.Levels.{one_node, not_both}
 use Rattle.tree_scan.specs.declared.level.Level.{Level}
 use Rattle.tree_scan.specs.Coming.{one_less, LeftUnder, LeftBehind, LeftFrom, Rests, Comes, gone_below, gone_past}
-use Rattle.tree_scan.specs.Reads.{NoOftener, LeavesAhead}
+use Rattle.tree_scan.specs.Reads.{StandIn, TakesPages, LeavesAhead}
 use Rattle.tree_scan.proofs.Left.{first_item, first_child, first_own, behind_under, from_front, rests_none}
-use Rattle.tree_scan.proofs.Within.{within_none, within_page, within_more, within_front, from_place}
+use Rattle.tree_scan.proofs.Within.{within_none, reads_exactly, takes_page, from_place}
 
 -- A level shows a node over one world, of which nothing is left.
 pub record IsDone (shown : Shown) (level : Level) : Type 0 where
@@ -278,20 +278,19 @@ down table usable last shown height levels_then child node own items front at fo
       (from_front table usable last shown found.lower node child.at_cell found.under_own found.under at found.content))),
 )
 
--- to any place of it reads its page
-pub down_reads : (table : Bool) (usable last : ℕ) (shown : Shown) (height : ℕ) (levels_then : List Level) (child : Level) (node : Node) (own : List ℕ) (items : List Item)
-    → child.place ≤ length node.cells → child.at_cell ≡ is_leaf node.kind → AtChild table usable last shown height levels_then child node own items
-    → LeavesAhead table usable last shown height levels_then own (child.page ∷ []) []
-down_reads table usable last shown height levels_then child node own items inside at found =
+-- to any place of it reads its page, and pages of what it leads to
+pub down_reads : (table : Bool) (usable last : ℕ) (shown : Shown) (height : ℕ) (levels_then : List Level) (looks : Bool) (child : Level) (list : List ℕ) (node : Node) (own : List ℕ)
+    (items : List Item) → child.place ≤ length node.cells → child.at_cell ≡ is_leaf node.kind → (looks ≡ false → list ≡ [])
+    → (found : AtChild table usable last shown height levels_then child node own items) → (looks ≡ true → StandIn list found.under_own)
+    → LeavesAhead table usable last shown height levels_then looks own (child.page ∷ list) []
+down_reads table usable last shown height levels_then looks child list node own items inside at none found looked =
     let left = from_place table usable last shown found.lower node child.place child.at_cell found.under_own found.under at inside found.content in
     record {
       own_then = left.left_own ++ found.behind_own;
       items_then = left.left_items ++ found.behind;
       comes = found.comes left.left_own left.left_items left.left;
-      within = subst (NoOftener (child.page ∷ (left.left_own ++ found.behind_own))) (sym found.own_is)
-          (λ n. within_page child.page (left.left_own ++ found.behind_own) (found.under_own ++ found.behind_own) n
-          (within_more left.left_own found.under_own found.behind_own left.within n));
-      next = within_none (left.left_own ++ found.behind_own);
+      within = takes_page looks child.page list left.left_own found.under_own found.behind_own own found.own_is left.within none looked;
+      next = reads_exactly looks (left.left_own ++ found.behind_own) [] (within_none (left.left_own ++ found.behind_own));
     }
 
 -- the first level
@@ -316,13 +315,15 @@ start table usable last shown height root own items level node is shows front at
       },
     )
 
-pub start_reads : (table : Bool) (usable last : ℕ) (shown : Shown) (height root : ℕ) (own : List ℕ) (items : List Item) (level : Level) (node : Node) → level.page ≡ root
-    → shown.node root ≡ Some node → level.place ≤ length node.cells → level.at_cell ≡ is_leaf node.kind → IsTree table usable last shown height root own items
-    → LeavesAhead table usable last shown height (level ∷ []) own (root ∷ []) []
-start_reads table usable last shown height root own items level node is shows inside at tree =
+pub start_reads : (table : Bool) (usable last : ℕ) (shown : Shown) (height root : ℕ) (looks : Bool) (own : List ℕ) (items : List Item) (level : Level) (list : List ℕ) (node : Node)
+    → level.page ≡ root → shown.node root ≡ Some node → level.place ≤ length node.cells → level.at_cell ≡ is_leaf node.kind → (looks ≡ false → list ≡ [])
+    → (tree : IsTree table usable last shown height root own items) → (looks ≡ true → StandIn list tree.below)
+    → LeavesAhead table usable last shown height (level ∷ []) looks own (root ∷ list) []
+start_reads table usable last shown height root looks own items level list node is shows inside at none tree looked =
     let same : tree.node ≡ node = one_node shown root tree.node node tree.holds shows in
     let left = from_place table usable last shown height node level.place level.at_cell tree.below items at inside
     (subst (λ (n : Node). Content table usable last shown height n tree.below items) same tree.content) in
+    let whole : own ≡ root ∷ (tree.below ++ []) = tree.own_is ∙ ap (λ (l : List ℕ). root ∷ l) (sym (append-nil tree.below)) in
     record {
       own_then = left.left_own;
       items_then = left.left_items;
@@ -338,30 +339,60 @@ start_reads table usable last shown height root own items level node is shows in
         holds = ap (λ (p : ℕ). shown.node p) is ∙ shows;
         left = left.left;
       };
-      within = subst (NoOftener (root ∷ left.left_own)) (sym tree.own_is) (λ n. within_page root left.left_own tree.below n (left.within n));
-      next = within_none left.left_own;
+      within = subst (TakesPages looks own (root ∷ list)) (append-nil left.left_own) (takes_page looks root list left.left_own tree.below [] own whole left.within none looked);
+      next = reads_exactly looks left.left_own [] (within_none left.left_own);
     }
 
--- the page of the child that comes next is still to be read
-pub first_read : (table : Bool) (usable last : ℕ) (shown : Shown) (height : ℕ) (above : List Level) (top : Level) (node : Node) (page : ℕ) (own : List ℕ) (items : List Item)
+-- the child that comes next is one of the tree, so deep that the tree has room for it, and its pages are first
+pub record NextChild (table : Bool) (usable last : ℕ) (shown : Shown) (height deep page : ℕ) (own : List ℕ) (items : List Item) : Type 0 where
+  pub lower : ℕ
+  pub sum : deep + suc lower ≤ height
+  pub under_own : List ℕ
+  pub behind_own : List ℕ
+  pub under : List Item
+  pub behind : List Item
+  pub own_is : own ≡ under_own ++ behind_own
+  pub items_are : items ≡ under ++ behind
+  pub sub : IsChild last shown (Content table usable last shown lower) page under_own under
+
+pub next_child : (table : Bool) (usable last : ℕ) (shown : Shown) (height : ℕ) (above : List Level) (top : Level) (node : Node) (page : ℕ) (own : List ℕ) (items : List Item)
     → shown.node top.page ≡ Some node → is_leaf node.kind ≡ false → top.at_cell ≡ false → top.place ≤ length node.cells → page ≡ child_at node.cells node.right top.place
-    → Comes table usable last shown height (above ++ top ∷ []) own items → NoOftener (page ∷ []) own
-first_read table usable last shown height [] top node page own items holds inner at inside is comes =
+    → Comes table usable last shown height (above ++ top ∷ []) own items → NextChild table usable last shown height (length above) page own items
+next_child table usable last shown height [] top node page own items holds inner at inside is comes =
     by_height height (subst (λ (n : Node). Rests table usable last shown height n top.place top.at_cell comes.rest_own comes.rest)
     (one_node shown top.page comes.node node comes.holds holds) comes.left)
   where
-    by_height : (height : ℕ) → Rests table usable last shown height node top.place top.at_cell comes.rest_own comes.rest → NoOftener (page ∷ []) own
+    by_height : (height : ℕ) → Rests table usable last shown height node top.place top.at_cell comes.rest_own comes.rest → NextChild table usable last shown height 0 page own items
     by_height zero rests = absurd (not_both (is_leaf node.kind) rests.0 inner)
     by_height (suc height) rests =
         let IsSub : ℕ → List ℕ → List Item → Type 0 = IsChild last shown (Content table usable last shown height) in
         let left : LeftUnder table usable last shown IsSub top.place node.cells node.right comes.rest_own comes.rest =
         subst (λ (b : Bool). LeftFrom b table usable last shown IsSub top.place node.cells node.right comes.rest_own comes.rest) at rests.1 in
         let first = first_child table usable last shown IsSub top.place node.cells node.right comes.rest_own comes.rest inside left in
-        let sub : IsSub page first.under_own first.under = subst (λ (p : ℕ). IsSub p first.under_own first.under) (sym is) first.sub in
-        let own_is : own ≡ page ∷ (sub.holds.below ++ first.rest_own) = comes.own_is ∙ ap (λ (l : List ℕ). l ++ comes.rest_own) comes.comes.0 ∙ first.own_is
-        ∙ ap (λ (l : List ℕ). l ++ first.rest_own) sub.holds.own_is in
-        subst (NoOftener (page ∷ [])) (sym own_is)
-        (λ n. within_page page [] (sub.holds.below ++ first.rest_own) n (within_none (sub.holds.below ++ first.rest_own) n))
-first_read table usable last shown height (level ∷ above) top node page own items holds inner at inside is comes =
-    let found = first_read table usable last shown (one_less height) above top node page comes.below_own comes.below holds inner at inside is comes.comes in
-    subst (NoOftener (page ∷ [])) (sym comes.own_is) (within_front (page ∷ []) comes.below_own comes.rest_own found)
+        record {
+          lower = height;
+          sum = omega arith;
+          under_own = first.under_own;
+          behind_own = first.rest_own;
+          under = first.under;
+          behind = first.rest;
+          own_is = comes.own_is ∙ ap (λ (l : List ℕ). l ++ comes.rest_own) comes.comes.0 ∙ first.own_is;
+          items_are = comes.items_are ∙ ap (λ (l : List Item). l ++ comes.rest) comes.comes.1 ∙ first.items_are;
+          sub = subst (λ (p : ℕ). IsSub p first.under_own first.under) (sym is) first.sub;
+        }
+next_child table usable last shown zero (level ∷ above) top node page own items holds inner at inside is comes =
+    let found = next_child table usable last shown zero above top node page comes.below_own comes.below holds inner at inside is comes.comes in
+    absurd (omega (arith, found.sum))
+next_child table usable last shown (suc height) (level ∷ above) top node page own items holds inner at inside is comes =
+    let found = next_child table usable last shown height above top node page comes.below_own comes.below holds inner at inside is comes.comes in
+    record {
+      lower = found.lower;
+      sum = omega (arith, found.sum);
+      under_own = found.under_own;
+      behind_own = found.behind_own ++ comes.rest_own;
+      under = found.under;
+      behind = found.behind ++ comes.rest;
+      own_is = comes.own_is ∙ ap (λ (l : List ℕ). l ++ comes.rest_own) found.own_is ∙ append_assoc found.under_own found.behind_own comes.rest_own;
+      items_are = comes.items_are ∙ ap (λ (l : List Item). l ++ comes.rest) found.items_are ∙ append_assoc found.under found.behind comes.rest;
+      sub = found.sub;
+    }

@@ -1,5 +1,6 @@
 -- Pages that stand in others no more often than there.
-use Rattle.std.proofs.Common.{◌≡◌, ℕ, zero, suc, ◌+◌, ◌≤◌, Bool, List, [], ◌∷◌, ◌++◌, length, refl, subst, sym, ◌∙◌, arith}
+use Rattle.std.proofs.Common.{◌≡◌, ℕ, zero, suc, ◌≤◌, Bool, true, false, List, [], ◌∷◌, ◌++◌, length, inl, inr, refl, subst, sym, ◌∙◌, arith}
+use Rattle.std.proofs.lemmas.Bool.{cases_lt}
 use Rattle.node_spec.specs.Cells.{NodeCell}
 use Rattle.node_spec.specs.Kinds.{is_leaf}
 use Rattle.node_spec.specs.Nodes.{Node}
@@ -8,7 +9,7 @@ use Rattle.tree_spec.specs.Layout.{Item, times, chains}
 use Rattle.tree_spec.specs.Trees.{AreItems, AreUnder, IsChild, Content}
 use Rattle.tree_spec.proofs.Lists.{times-append}
 use Rattle.tree_scan.specs.Coming.{LeftItems, LeftUnder, LeftFrom, Rests}
-use Rattle.tree_scan.specs.Reads.{NoOftener}
+use Rattle.tree_scan.specs.Reads.{NoOftener, StandIn, TakesPages, ReadsOf}
 
 pub within_same : (own : List ℕ) → NoOftener own own
 within_same own page = omega arith
@@ -49,6 +50,71 @@ within_past few front own within page = omega (arith, within page, times-append 
 
 pub within_page : (page : ℕ) (few own : List ℕ) (n : ℕ) → times few n ≤ times own n → times (page ∷ few) n ≤ times (page ∷ own) n
 within_page page few own n within = omega (arith, within)
+
+-- the same where entries may be compared besides
+pub takes_same : (looks : Bool) (own : List ℕ) → TakesPages looks own [] own
+takes_same false own = within_same own
+takes_same true own = (λ page here. absurd (omega (arith, here)), within_same own)
+
+pub takes_exactly : (looks : Bool) (own list still : List ℕ) → NoOftener (list ++ still) own → TakesPages looks own list still
+takes_exactly false own list still within = within
+takes_exactly true own list still within = (
+  λ page here. omega (arith, within page, here, times-append list still page),
+  λ page. omega (arith, within page, times-append list still page),
+)
+
+pub reads_exactly : (looks : Bool) (own list : List ℕ) → NoOftener list own → ReadsOf looks own list
+reads_exactly false own list within = within
+reads_exactly true own list within = λ page here. omega (arith, within page, here)
+
+stand_both : (a b own : List ℕ) → StandIn a own → StandIn b own → StandIn (a ++ b) own
+stand_both a b own one two = λ page here. elim (cases_lt 0 (times a page)) [
+  | inl some ↦ one page (omega (arith, some))
+  | inr none ↦ two page (omega (arith, none, here, times-append a b page))
+]
+
+stand_join : (few middle own : List ℕ) → StandIn few middle → NoOftener middle own → StandIn few own
+stand_join few middle own one two = λ page here. omega (arith, one page here, two page)
+
+stand_page : (page : ℕ) (list below behind : List ℕ) → StandIn list below → StandIn (page ∷ list) (page ∷ (below ++ behind))
+stand_page page list below behind looked = λ n here. elim (cases_lt 0 (times list n)) [
+  | inl some ↦ omega (arith, looked n (omega (arith, some)), times-append below behind n)
+  | inr none ↦ omega (arith, none, here)
+]
+
+pub takes_then : (looks : Bool) (first list still middle own : List ℕ) → TakesPages looks own first middle → TakesPages looks middle list still
+    → TakesPages looks own (first ++ list) still
+takes_then false first list still middle own one two = within_then first list still middle own one two
+takes_then true first list still middle own one two =
+    (stand_both first list own one.0 (stand_join list middle own two.0 one.1), within_join still middle own two.1 one.1)
+
+pub takes_on : (looks : Bool) (first middle list own : List ℕ) → TakesPages looks own first middle → ReadsOf looks middle list → ReadsOf looks own (first ++ list)
+takes_on false first middle list own one two = within_on first middle list own one two
+takes_on true first middle list own one two = stand_both first list own one.0 (stand_join list middle own two one.1)
+
+pub takes_last : (looks : Bool) (own list still : List ℕ) → TakesPages looks own list still → NoOftener still own
+takes_last false own list still takes = within_last list still own takes
+takes_last true own list still takes = takes.1
+
+-- a page, and pages of what it leads to
+pub takes_page : (looks : Bool) (page : ℕ) (list few below behind own : List ℕ) → own ≡ page ∷ (below ++ behind) → NoOftener few below → (looks ≡ false → list ≡ [])
+    → (looks ≡ true → StandIn list below) → TakesPages looks own (page ∷ list) (few ++ behind)
+takes_page false page list few below behind own is within none looked =
+    subst (λ (l : List ℕ). NoOftener ((page ∷ l) ++ (few ++ behind)) own) (sym (none refl))
+    (subst (NoOftener (page ∷ (few ++ behind))) (sym is) (λ n. within_page page (few ++ behind) (below ++ behind) n (within_more few below behind within n)))
+takes_page true page list few below behind own is within none looked =
+    subst (λ (o : List ℕ). StandIn (page ∷ list) o × NoOftener (few ++ behind) o) (sym is) (
+      stand_page page list below behind (looked refl),
+      λ n. omega (arith, within n, times-append few behind n, times-append below behind n),
+    )
+
+pub reads_page : (looks : Bool) (page : ℕ) (list below behind own : List ℕ) → own ≡ page ∷ (below ++ behind) → (looks ≡ false → list ≡ [])
+    → (looks ≡ true → StandIn list below) → ReadsOf looks own (page ∷ list)
+reads_page false page list below behind own is none looked =
+    subst (λ (l : List ℕ). NoOftener (page ∷ l) own) (sym (none refl))
+    (subst (NoOftener (page ∷ [])) (sym is) (λ n. within_page page [] (below ++ behind) n (within_none (below ++ behind) n)))
+reads_page true page list below behind own is none looked =
+    subst (StandIn (page ∷ list)) (sym is) (stand_page page list below behind (looked refl))
 
 -- what is left of a node from a place on
 pub record FromPlace (Left : List ℕ → List Item → Type 0) (own : List ℕ) : Type 0 where

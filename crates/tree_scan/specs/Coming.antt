@@ -1,15 +1,17 @@
 -- What is still to come of a tree, from the pages on which a cursor stands and its place on each, and the pages that are read for it.
 --
 -- What comes is told as a tree is: the items in their order, and the pages, which are only counted.
-use Rattle.std.specs.Prelude.{◌≡◌, ℕ, ℤ, zero, suc, ◌≤◌, ◌<ℤ◌, Bool, true, false, List, [], ◌∷◌, ◌++◌, Option, None, Some, if◌then◌else◌, vec_len}
+use Rattle.std.specs.Prelude.{◌≡◌, ℕ, zero, suc, ◌≤◌, Bool, true, false, List, [], ◌∷◌, ◌++◌, Some, if◌then◌else◌, vec_len}
 use Rattle.node_spec.specs.Kinds.{is_leaf}
 use Rattle.node_spec.specs.Cells.{NodeCell}
 use Rattle.node_spec.specs.Nodes.{Node}
 use Rattle.tree_spec.specs.Shown.{Shown}
-use Rattle.tree_spec.specs.Layout.{Each, Item, chains}
+use Rattle.tree_spec.specs.Layout.{Item, chains}
 use Rattle.tree_spec.specs.Trees.{AreItems, AreUnder, IsOwn, IsChild, Content, IsTree}
 use Rattle.tree_scan.specs.declared.level.Level.{Level}
+use Rattle.tree_scan.specs.declared.bounds.Bounds.{Bounds}
 use Rattle.tree_scan.specs.declared.cursor.Cursor.{Cursor}
+use Rattle.tree_scan.specs.Bounded.{of_table, AreFrom, AreUpTo}
 
 -- One page.
 
@@ -82,49 +84,34 @@ Comes table usable last shown height [] own items = (own ≡ []) × (items ≡ [
 Comes table usable last shown height (level ∷ levels) own items =
     Joined shown level.page (Comes table usable last shown (one_less height) levels) (λ node. Rests table usable last shown height node level.place level.at_cell) own items
 
--- a key is over a bound
-abbrev pub IsOver : (high : Option ℤ) → ℤ → Type 0
-IsOver None key = ⊥
-IsOver (Some high) key = high <ℤ key
-
--- Of items these are up to a high bound, which is inclusive, and those behind them are over it.
-pub record AreUpTo (high : Option ℤ) (items some : List Item) : Type 0 where
-  pub back : List Item
-  pub items_are : items ≡ some ++ back
-  pub inside : Each (λ (item : Item). IsOver high item.key → ⊥) some
-  pub over : Each (λ (item : Item). IsOver high item.key) back
-
--- a key is under a bound
-abbrev pub IsUnder : (low : Option ℤ) → ℤ → Type 0
-IsUnder None key = ⊥
-IsUnder (Some low) key = key <ℤ low
-
--- A cursor that hasn't begun is before those items of its root's tree that are in the bounds.
-pub record AreBefore (usable last : ℕ) (shown : Shown) (height : ℕ) (cursor : Cursor) (some : List Item) : Type 0 where
+-- A cursor that hasn't begun is before those items of its root's tree that are in the bounds. From the low bound on these are ahead of it.
+pub record AreBefore (usable last : ℕ) (shown : Shown) (height : ℕ) (cursor : Cursor) (ahead some : List Item) : Type 0 where
   pub own : List ℕ
   pub items : List Item
-  pub tree : IsTree true usable last shown height cursor.root own items
-  pub front : List Item
-  pub rest : List Item
-  pub items_are : items ≡ front ++ rest
-  pub under : Each (λ (item : Item). IsUnder cursor.low item.key) front
-  pub not_under : Each (λ (item : Item). IsUnder cursor.low item.key → ⊥) rest
-  pub up_to : AreUpTo cursor.high rest some
+  pub tree : IsTree (of_table cursor.bounds) usable last shown height cursor.root own items
+  pub from : AreFrom cursor.bounds items ahead
+  pub up_to : AreUpTo cursor.bounds ahead some
 
 -- One that has is on its path.
-pub record AreBehind (usable last : ℕ) (shown : Shown) (height : ℕ) (cursor : Cursor) (some : List Item) : Type 0 where
+pub record AreBehind (usable last : ℕ) (shown : Shown) (height : ℕ) (cursor : Cursor) (ahead some : List Item) : Type 0 where
   pub own : List ℕ
-  pub items : List Item
-  pub comes : Comes true usable last shown height cursor.levels.items own items
-  pub up_to : AreUpTo cursor.high items some
+  pub comes : Comes (of_table cursor.bounds) usable last shown height cursor.levels.items own ahead
+  pub up_to : AreUpTo cursor.bounds ahead some
 
-abbrev pub ToCome : Bool → (usable last : ℕ) → Shown → (height : ℕ) → Cursor → List Item → Type 0
-ToCome false usable last shown height cursor some = AreBefore usable last shown height cursor some
-ToCome true usable last shown height cursor some = AreBehind usable last shown height cursor some
+abbrev pub ToCome : Bool → (usable last : ℕ) → Shown → (height : ℕ) → Cursor → (ahead some : List Item) → Type 0
+ToCome false usable last shown height cursor ahead some = AreBefore usable last shown height cursor ahead some
+ToCome true usable last shown height cursor ahead some = AreBehind usable last shown height cursor ahead some
 
--- These items of the tree, which has so many levels under its root, are still to come.
-abbrev pub AreToCome : (usable last : ℕ) → Shown → (height : ℕ) → Cursor → List Item → Type 0
-AreToCome usable last shown height cursor some = ToCome cursor.begun usable last shown height cursor some
+-- Of the items of the tree, which has so many levels under its root, these are still ahead, and of them those in the bounds are still to come.
+abbrev pub AreToCome : (usable last : ℕ) → Shown → (height : ℕ) → Cursor → (ahead some : List Item) → Type 0
+AreToCome usable last shown height cursor ahead some = ToCome cursor.begun usable last shown height cursor ahead some
+
+-- A cursor as it is made.
+pub record IsNewCursor (root : ℕ) (bounds : Bounds) (cursor : Cursor) : Type 0 where
+  pub root_is : cursor.root ≡ root
+  pub bounds_are : cursor.bounds ≡ bounds
+  pub begun : cursor.begun ≡ false
+  pub levels : cursor.levels.items ≡ []
 
 -- nothing is left of a level, by what was decoded of its page: there is a child more than there are cells
 abbrev pub IsSpent : Level → Type 0

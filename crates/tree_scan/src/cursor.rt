@@ -1,9 +1,12 @@
-// A cursor over a table's tree.
-ghost use Rattle.std.specs.Prelude.{◌≡◌, ◌⊎◌, ℕ, suc, ◌≤◌, ◌<◌, true, false, length, OnOk, IfOk, IfErr, OnErr, List, [], Some, None};
+// A cursor over the items of a tree.
+ghost use Rattle.std.specs.Prelude.{◌≡◌, ℕ, true, false, OnOk, IfOk, IfErr, OnErr};
 ghost use Rattle.page_face.specs.Pages.{ReadsAtMost};
+ghost use Rattle.tree_scan.specs.Coming.{IsNewCursor};
 ghost use Rattle.tree_scan.specs.Reads.{HasReadAhead};
-ghost use Rattle.tree_scan.specs.Scanning.{Fits, GivesNext, StaysThere, FailsNext, FailsStart, IsBarred, BreaksStart, BreaksOn, BreaksNext};
+ghost use Rattle.tree_scan.specs.Scanning.{Fits, GivesNext, StaysThere, FailsNext, IsBarred, BreaksOn, BreaksNext, BreaksStart};
 
+use crate::bounds::Bounds;
+use crate::buffers::Buffers;
 use crate::level::Level;
 use crate::path::{first_path, go_down, go_up, step_on};
 use crate::row::row_at;
@@ -11,45 +14,60 @@ use page_face::{FetchFault, Pages};
 use std::alloc::{AllocError, Global};
 use value_form::Row;
 
-/// A place between the rows of a table's tree.
+/// A place between the items of a tree: the rows of a table, or the entries of an index.
 #[derive(Drop)]
 pub struct Cursor {
-    pub(crate) alloc: Global,
     pub(crate) root: u32,
-    pub(crate) low: Option<i64>,
-    pub(crate) high: Option<i64>,
+    pub(crate) bounds: Bounds,
     pub(crate) begun: bool,
     pub(crate) levels: Vec<Level>,
-    pub(crate) spare: Vec<Vec<u8>>,
+    pub(crate) spare: Buffers,
 }
 
 impl Cursor {
     /// A cursor before the rows of the table's tree at page `root` whose rowids are from `low` to `high`, both inclusive. It takes no memory.
     pub fn rows(alloc: Global, root: u32, low: Option<i64>, high: Option<i64>) -> Cursor
-        ensures root { result.root ≡ root }
-        ensures low { result.low ≡ low }
-        ensures high { result.high ≡ high }
-        ensures begun { result.begun ≡ false }
-        ensures levels { result.levels.items ≡ [] }
+        ensures { IsNewCursor root (Bounds.Rows low high) result }
+    {
+        Cursor::new(alloc, root, Bounds::Rows { low, high })
+    }
+
+    /// A cursor before the entries of the index's tree at page `root` whose leading values, as many as a bound has, are from `low` to `high`, both
+    /// inclusive. It takes no memory.
+    pub fn entries(alloc: Global, root: u32, low: Option<Row>, high: Option<Row>) -> Cursor
+        ensures { IsNewCursor root (Bounds.Entries low high) result }
+    {
+        Cursor::new(alloc, root, Bounds::Entries { low, high })
+    }
+
+    // A cursor before the items that are in the bounds.
+    fn new(alloc: Global, root: u32, bounds: Bounds) -> Cursor
+        ensures { IsNewCursor root bounds result }
     {
         Cursor {
-            alloc,
             root,
-            low,
-            high,
+            bounds,
             begun: false,
             levels: Vec::new(alloc),
-            spare: Vec::new(alloc),
+            spare: Buffers::new(alloc),
         }
     }
 
-    /// The next row with its rowid, None exactly behind the last one in the bound.
+    /// The next item, None exactly behind the last one in the bounds: of a table a row with its rowid, of an index an entry's row with its last
+    /// value where that is an integer, which is a rowid, else with 0.
     ///
-    /// The pages are to be those of the last call, on which nothing was put since. After an error the same rows are to come.
+    /// Rows come by rising rowids. Entries come as they stand in the tree: with bounds they are to stand so that those under the low bound come
+    /// first and those over the high one last, as they do in the order of [`order_rows`](value_form::order_rows).
+    ///
+    /// The pages are to be those of the last call, on which nothing was put since. After an error the same items are to come.
     ///
     /// `Corrupt` names the root where that is out of range or shows no node that may stand there; the page that names a child out of range;
-    /// the child that shows no node that may stand there; the row's page where its payload is no record without a float, or has 2^32
-    /// bytes or more; and the page of the payload's chain that names one out of range. `Disk` and `Memory` come from outside.
+    /// the child that shows no node that may stand there; the item's page where its payload is no record without a float, or has 2^32
+    /// bytes or more; and the page of the payload's chain that names one out of range. In an index it may be so for each entry with which the low
+    /// bound is compared. `Disk` and `Memory` come from outside.
+    ///
+    /// Each page of the tree is read once, when it is come to, and the pages of an item's chain with the item. In an index the chains of the entries
+    /// with which the low bound is compared are read besides. What an error cut off is read again.
     pub fn next<P: Pages>(&mut self, pages: &mut P) -> Result<Option<(i64, Row)>, FetchFault>
         requires ready { P.ready pages.old }
         requires fits { Fits P.PagesTells pages.old self.old }
@@ -71,15 +89,17 @@ impl Cursor {
         }
     }
 
-    // Goes to the first row, if that wasn't done yet.
+    // Goes to the first item, if that wasn't done yet.
     fn begin<P: Pages>(&mut self, pages: &mut P) -> Result<(), FetchFault>
         requires ready { P.ready pages.old }
         requires fits { Fits P.PagesTells pages.old self.old }
         ensures stays { StaysThere P.PagesTells pages.old self.old self.new pages.new }
         ensures begun { OnOk result (self.new.begun ≡ true) }
         ensures not_begun { OnErr result (self.new.begun ≡ false) }
-        ensures barred { IfErr result (IsBarred P.PagesTells pages.old pages.new (λ shown. BreaksStart (P.last_page pages.old) shown self.new.root self.new.levels.items)) }
-        ensures sound { IfErr result (λ why. FailsStart P.PagesTells pages.old self.old why pages.new) }
+        ensures same { (self.new.bounds ≡ self.old.bounds) × (self.new.root ≡ self.old.root) }
+        ensures barred { IfErr result (IsBarred P.PagesTells pages.old pages.new
+            (λ shown. BreaksStart (P.usable pages.old) (P.last_page pages.old) shown self.new.bounds self.new.root self.new.levels.items)) }
+        ensures sound { IfErr result (λ why. FailsNext P.PagesTells pages.old self.old why pages.new) }
         ensures fits { Fits P.PagesTells pages.new self.new }
         ensures reads { HasReadAhead P.PagesTells pages.old self.old result self.new pages.new }
         ensures reading { ReadsAtMost P.PagesTells pages.old pages.new }
@@ -92,14 +112,7 @@ impl Cursor {
             return Err(FetchFault::Corrupt { page: root });
         }
         self.levels.clear();
-        match first_path(
-            self.alloc,
-            pages,
-            root,
-            &mut self.levels,
-            &mut self.spare,
-            self.low,
-        ) {
+        match first_path(pages, root, &mut self.levels, &mut self.spare, &self.bounds) {
             Ok(()) => (),
             Err(why) => return Err(why),
         }
@@ -107,7 +120,7 @@ impl Cursor {
         Ok(())
     }
 
-    // The next row, once the root was read.
+    // The next item, once the root was read.
     fn go_on<P: Pages>(&mut self, pages: &mut P) -> Result<Option<(i64, Row)>, FetchFault>
         requires ready { P.ready pages.old }
         requires fits { Fits P.PagesTells pages.old self.old }
@@ -115,18 +128,25 @@ impl Cursor {
         ensures gives { IfOk result (λ found. GivesNext P.PagesTells pages.old self.old found self.new pages.new) }
         ensures stays { OnErr result (StaysThere P.PagesTells pages.old self.old self.new pages.new) }
         ensures begun { self.new.begun ≡ true }
-        ensures barred { IfErr result (IsBarred P.PagesTells pages.old pages.new (λ shown. BreaksOn (P.usable pages.old) (P.last_page pages.old) shown self.new.high self.new.levels.items)) }
+        ensures barred { IfErr result (IsBarred P.PagesTells pages.old pages.new
+            (λ shown. BreaksOn (P.usable pages.old) (P.last_page pages.old) shown self.new.bounds self.new.levels.items)) }
         ensures sound { IfErr result (λ why. FailsNext P.PagesTells pages.old self.old why pages.new) }
         ensures fits { Fits P.PagesTells pages.new self.new }
         ensures reads { HasReadAhead P.PagesTells pages.old self.old result self.new pages.new }
         ensures reading { ReadsAtMost P.PagesTells pages.old pages.new }
     {
         go_up(&mut self.levels, &mut self.spare);
-        match go_down(self.alloc, pages, &mut self.levels, &mut self.spare, None) {
+        match go_down(
+            pages,
+            &mut self.levels,
+            &mut self.spare,
+            &self.bounds,
+            false,
+        ) {
             Ok(()) => (),
             Err(why) => return Err(why),
         }
-        match row_at(self.alloc, pages, &self.levels, self.high, &mut self.spare) {
+        match row_at(pages, &self.levels, &self.bounds, &mut self.spare) {
             Ok(None) => {
                 self.levels.clear();
                 Ok(None)

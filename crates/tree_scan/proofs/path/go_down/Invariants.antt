@@ -1,8 +1,9 @@
-use Rattle.std.proofs.Common.{true, ◌≡◌, ◌-◌, List, [], ◌∷◌, ◌++◌, length, ℤ, None, Some, Ok, false}
+use Rattle.std.proofs.Common.{◌≡◌, ◌-◌, List, [], ◌∷◌, ◌++◌, length, Ok, true, false}
 use Rattle.page_face.specs.Pages.{ReadsAtMost}
+use Rattle.tree_scan.specs.Bounded.{of_table, may_look}
 use Rattle.tree_scan.specs.Coming.{IsSpent}
-use Rattle.tree_scan.specs.Scanning.{AreLevels, KeepsComing}
 use Rattle.tree_scan.specs.Reads.{HasWalked}
+use Rattle.tree_scan.specs.Scanning.{AreLevels, KeepsComing}
 use Rattle.tree_scan.specs.Seeking.{KeepsSought}
 use Rattle.tree_scan.specs.declared.level.Level.{Level}
 use Rattle.tree_scan.proofs.path.go_down.Given as goal
@@ -10,11 +11,11 @@ use Rattle.tree_scan.proofs.path.go_down.Given as goal
 abbrev pub invariant-downs : goal.invariant-downs
 invariant-downs g l = record {
   reading : ReadsAtMost g.P.PagesTells l.fn.pages l.pages;
-  levels : AreLevels true g.P.PagesTells l.pages l.levels.items;
-  coming : l.fn.low ≡ None → KeepsComing g.P.PagesTells l.fn.pages l.fn.levels.items l.levels.items l.pages;
-  sought : (rowid : ℤ) → l.fn.low ≡ Some rowid → KeepsSought g.P.PagesTells l.fn.pages rowid l.fn.levels.items l.levels.items l.pages;
-  walked : HasWalked {T = Unit {0}} g.P.PagesTells l.fn.pages l.fn.levels.items l.levels.items (Ok tt) l.pages;
-  left : l.fn.low ≡ None → ((above : List Level) (top : Level) → l.fn.levels.items ≡ above ++ top ∷ [] → IsSpent top → ⊥)
+  levels : AreLevels (of_table l.bounds) g.P.PagesTells l.pages l.levels.items;
+  coming : l.seek ≡ false → KeepsComing (of_table l.bounds) g.P.PagesTells l.fn.pages l.fn.levels.items l.levels.items l.pages;
+  sought : l.seek ≡ true → KeepsSought g.P.PagesTells l.fn.pages l.bounds l.fn.levels.items l.levels.items l.pages;
+  walked : HasWalked {T = Unit {0}} (may_look l.seek l.bounds) (of_table l.bounds) g.P.PagesTells l.fn.pages l.fn.levels.items l.levels.items (Ok tt) l.pages;
+  left : l.seek ≡ false → ((above : List Level) (top : Level) → l.fn.levels.items ≡ above ++ top ∷ [] → IsSpent top → ⊥)
       → (above : List Level) (top : Level) → l.levels.items ≡ above ++ top ∷ [] → IsSpent top → ⊥;
   inner : (above : List Level) (top : Level) → l.levels.items ≡ above ++ top ∷ [] → top.at_cell ≡ false → IsSpent top → ⊥;
 }

@@ -1,4 +1,4 @@
-use Rattle.std.proofs.Common.{◌≡◌, [], ◌-◌, ◌∙◌, sym, arith, length, subst, true, false}
+use Rattle.std.proofs.Common.{◌≡◌, [], ◌-◌, ◌∙◌, arith, length, subst, true, false}
 use Rattle.tree_scan.specs.declared.level.Level.{Level}
 use Rattle.tree_scan.proofs.Lasts.{cut_last, at_last, count_last}
 use Rattle.tree_scan.proofs.path.is_at_cell.Goals as goal
