@@ -10,7 +10,10 @@ pub mod LogSteps
 pub mod Elsewhere
 pub mod Salts
 pub mod Headers
+pub mod KnownFronts
 pub mod Overlaid
+pub mod FirstPage
+pub mod NamedPages
 pub mod StoreImages
 pub mod StoreSteps
 pub mod StoreMoments

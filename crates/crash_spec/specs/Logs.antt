@@ -1,7 +1,9 @@
 -- A log on a disk: what is on the medium, what is on its way, and what of it a crash may leave.
-use Rattle.std.specs.Prelude.{◌≡◌, ◌≢◌, ◌⊎◌, ℕ, ◌+◌, ◌%◌, ◌^◌, ◌≤◌, ◌<◌, true, List, ◌++◌, length, take, Contains, All}
+use Rattle.std.specs.Prelude.{◌≡◌, ◌≢◌, ◌⊎◌, ℕ, ◌+◌, ◌%◌, ◌^◌, ◌≤◌, ◌<◌, true, List, [], ◌++◌, length, take, Contains, All}
 use Rattle.disk_face.specs.declared.disk.File.{File}
 use Rattle.disk_face.specs.declared.step.Piece.{Piece}
+use Rattle.disk_face.specs.declared.step.Step.{Step}
+use Rattle.disk_face.specs.declared.step.Step.TheVariants.{Wrote, Refused, Synced}
 use Rattle.disk_face.specs.Files.{Files, content}
 use Rattle.disk_face.specs.Steps.{History, reads}
 use Rattle.disk_face.specs.Image.{unsure, IsSure}
@@ -12,6 +14,7 @@ use Rattle.log_spec.specs.Frames.{accepted_frames, end_of}
 use Rattle.crash_spec.specs.Marks.{IsLog, number_of, pieces_from}
 use Rattle.crash_spec.specs.Opening.{Opening}
 use Rattle.crash_spec.specs.Known.{known_pieces, IsWithoutChance}
+use Rattle.crash_spec.specs.Recovered.{recovered, size_of_first}
 
 -- all that reads give of a file is on the medium
 abbrev pub IsWhole : Opening → History → File → Type 0
@@ -71,3 +74,27 @@ IsOursAt log piece = piece.file ≡ log → piece.at ≡ 0 → is_signed piece.b
 -- no log begins with a signed header that isn't ours, so that an opening refuses none as foreign
 abbrev pub NoneForeign : Files → Type 0
 NoneForeign files = (log : File) → IsLog log → is_signed (content files log) ≡ true → IsOurs (number_of log) (content files log)
+
+-- each log with an accepted frame has a header of this page size
+abbrev pub HaveSize : ℕ → Files → Type 0
+HaveSize size files =
+    (log : File) → IsLog log → (accepted_frames (number_of log) (content files log) ≡ [] → ⊥) → (log_fields (content files log)).page_size ≡ size
+
+-- No log bars an opening of the files: none is foreign, and each with an accepted frame has the page size that page 1 of the recovered map
+-- names, where that map has a page.
+abbrev pub HaveOwnLogs : Files → Type 0
+HaveOwnLogs files = NoneForeign files × (1 ≤ length (recovered files) → HaveSize (size_of_first (recovered files)) files)
+
+-- a piece at the front of the log that is signed is a header with this page size
+abbrev pub IsSizedAt : File → ℕ → Piece → Type 0
+IsSizedAt log size piece = piece.file ≡ log → piece.at ≡ 0 → is_signed piece.bytes ≡ true → (log_fields piece.bytes).page_size ≡ size
+
+-- a piece at the front of a log that is signed is a header that is ours and has this page size
+abbrev pub IsOwnAt : ℕ → Piece → Type 0
+IsOwnAt size piece = (log : File) → IsLog log → IsOursAt log piece × IsSizedAt log size piece
+
+-- what a step hands to a write has P
+abbrev pub Hands : (Piece → Type 0) → Step → Type 0
+Hands P (Wrote piece) = P piece
+Hands P (Refused piece left) = P piece
+Hands P (Synced file) = Unit {0}

@@ -5,12 +5,13 @@ use Rattle.disk_face.specs.Steps.{History, reads}
 use Rattle.disk_face.specs.declared.tells.DiskTells as disks
 use Rattle.disk_face.specs.declared.source.Source as sources
 use Rattle.disk_face.specs.declared.sink.Sink as sinks
+use Rattle.page_spec.specs.Header.{is_page_size}
 use Rattle.page_spec.specs.PageMap.{PageMap, page_size_of}
 use Rattle.crash_spec.specs.Opening.{Opening, opening_at}
 use Rattle.crash_spec.specs.Passes.{Passes}
 use Rattle.opening_spec.specs.Begins.{MayOpen, view_at}
 use Rattle.engine_spec.specs.declared.pins.Lock.TheVariants.{Part1}
-use Rattle.engine_spec.specs.Leaves.{RecoversNow}
+use Rattle.engine_spec.specs.Leaves.{AtEach, RecoversNow}
 use Rattle.engine_spec.specs.State.{EngineState}
 use Rattle.engine_spec.specs.TwoLogs.{TwoLogs}
 use Rattle.page_face.specs.declared.means.Means.{Ghosts as Meaning}
@@ -18,7 +19,7 @@ use Rattle.page_lines.specs.declared.lines.Act.{Act}
 use Rattle.page_lines.specs.declared.lines.Told.{Told}
 use Rattle.page_lines.specs.PageLines.{IsPageStore}
 use Rattle.page_lines.specs.Range.{AreInRange}
-use Rattle.page_lines.specs.Logged.{DiskPast, Lines, may_leave}
+use Rattle.page_lines.specs.Logged.{DiskPast, Lines, may_leave, may_leave_since}
 use Rattle.page_lines.proofs.Alone.{IsStore}
 use Rattle.page_lines.proofs.LoggedAnswers.{logged_functional}
 use Rattle.page_lines.proofs.LoggedLeaves.{lines_leave}
@@ -36,12 +37,15 @@ use Rattle.store.specs.Solo.{solo_tells, store_of}
 use Rattle.store.specs.Solo.{as_store}
 use Rattle.store.proofs.Mixed.{opened_settles}
 use Rattle.store.proofs.OpenedStores.{ArePages, BeginsState, begins_logs, begins_state, opened_with_sizes}
+use Rattle.reopening.proofs.FirstMap.{opened_own}
 use Rattle.disk_runs.specs.OnDisk.{BeginsEmpty, IsPlayed, IsRunFrom, IsAnsweredOnDisk, RunsStore, Settles, first_logs, first_world, no_opening, opened_by}
 use Rattle.disk_runs.specs.Opened.{IsRunOf}
 use Rattle.page_runs.specs.declared.status.Status.{Status}
 use Rattle.page_runs.specs.Outcome.{RunEnds}
 use Rattle.page_runs.proofs.Memory.{ends_as}
 use Rattle.disk_runs.proofs.Plays.{plays_under}
+use Rattle.disk_runs.proofs.OwnMaps.{moments_open, run_own}
+use Rattle.disk_runs.proofs.Openings.{reopens_settling}
 
 -- the logs of a store as it begins
 logs_are : (bytes used most : ℕ) (kept : StoreData) → IsBeginning bytes used most kept → two_logs kept ≡ first_logs (two_logs kept).generation most
@@ -61,8 +65,8 @@ logs_are bytes used most kept b =
       limit = limit i;
     }
 
-module _ {D W M : Type 0} (disk : disks.Ghosts D) (loans : W → List ℕ) (means : Meaning M) (new_size most : ℕ) (hot : Option Bool) (faults : ℕ)
-    (solo : Solo D W M) (b : IsBeginning (store_of solo).page_size (store_of solo).usable most (kept_of (store_of solo)))
+module _ {D W M : Type 0} (disk : disks.Ghosts D) (loans : W → List ℕ) (means : Meaning M) (new_size most : ℕ) (legal : is_page_size new_size ≡ true) (hot : Option Bool)
+    (faults : ℕ) (solo : Solo D W M) (b : IsBeginning (store_of solo).page_size (store_of solo).usable most (kept_of (store_of solo)))
     (state : (solo_tells disk loans means).state solo ≡ state_of disk (store_of solo) no_readers)
     (live : (solo_tells disk loans means).live solo []) (same_faults : disk.faults (store_of solo).disk ≡ faults) where
   abbrev seen : EngineState
@@ -151,14 +155,20 @@ module _ {D W M : Type 0} (disk : disks.Ghosts D) (loans : W → List ℕ) (mean
         subst (λ (now : DiskPast). Lines (opened_by new_size told) (first_world first generation most) begun acts answers led.0 now) last_is
         (subst (λ (old : DiskPast). Lines (opened_by new_size told) (first_world first generation most) old acts answers led.0 (past_of run.last)) past_is led.1) in
         let sound : IsStore (page_size_of first) first = record { store = is_store; size = refl } in
+        let images : AtEach (opened_by new_size told) (may_leave_since 0 led.0) begun.past ended.past =
+        lines_leave (opened_by new_size told) (first_world first generation most) begun ended acts answers led.0 refl
+        (λ opening is. subst (RecoversNow opening (may_leave (first_world first generation most))) known.disk (runs.recovers opening is)) lines in
         record {
           after = led.0;
           lines = lines;
           functional = logged_functional (opened_by new_size told) (first_world first generation most) begun ended acts answers led.0 lines;
           serial = logged_serial (page_size_of first) first sound (opened_by new_size told) (first_world first generation most) refl begun ended acts answers led.0 range lines;
           legal = logged_legal (page_size_of first) first sound (opened_by new_size told) (first_world first generation most) refl begun ended acts answers led.0 range lines;
-          images = lines_leave (opened_by new_size told) (first_world first generation most) begun ended acts answers led.0 refl
-              (λ opening is. subst (RecoversNow opening (may_leave (first_world first generation most))) known.disk (runs.recovers opening is)) lines;
+          images = images;
+          opens = λ opening is.
+              moments_open (page_size_of first) opening (may_leave_since 0 led.0) begun.past ended.past
+              (run_own (page_size_of first) first sound (opened_own new_size hot (reads told) legal is_opened) (opened_by new_size told) (first_world first generation most) refl refl begun ended acts answers led.0 range lines)
+              (images opening is);
         }
 
   -- both
@@ -201,7 +211,7 @@ module _ {D W M : Type 0} (disk : disks.Ghosts D) (loans : W → List ℕ) (mean
 -- A run over a store that was just opened.
 pub runs_store : {D W M S K : Type 0} (disk : disks.Ghosts D) (source : sources.Ghosts S) (sink : sinks.Ghosts K) (loans : W → List ℕ) (means : Meaning M)
     (new_size most : ℕ) (status : Status) (d : D) (src : S) (out : K) (after : D) (src' : S) (out' : K) (solo : Solo D W M)
-    → IsBeginning (store_of solo).page_size (store_of solo).usable most (kept_of (store_of solo))
+    → is_page_size new_size ≡ true → IsBeginning (store_of solo).page_size (store_of solo).usable most (kept_of (store_of solo))
     → IfSome (disk.told d) (λ told. (two_logs (kept_of (store_of solo))).generation ≡ generation_opened (reads told))
     → (solo_tells disk loans means).state solo ≡ state_of disk (store_of solo) no_readers
     → (IfSome (disk.told d) (λ told. MaySettle (reads told)) → (solo_tells disk loans means).live solo [])
@@ -212,7 +222,7 @@ pub runs_store : {D W M S K : Type 0} (disk : disks.Ghosts D) (source : sources.
     → IfSome (disk.told d) (λ told. AreOpened (disk.journal_answer d) (reads told)) → disk.faults (store_of solo).disk ≡ disk.faults d
     → RunEnds source sink (IsRunOf disk loans means solo after) status src out src' out'
     → RunsStore disk source sink new_size most status d src out after src' out'
-runs_store disk source sink loans means new_size most status d src out after src' out' solo begins generation state live newest moments opened faults run =
+runs_store disk source sink loans means new_size most status d src out after src' out' solo legal begins generation state live newest moments opened faults run =
     let hot = disk.journal_answer d in
     let held = live (settles_told hot (disk.told d) opened) in
     record {
@@ -222,8 +232,9 @@ runs_store disk source sink loans means new_size most status d src out after src
       faults = refl;
       opened = opened;
       moments = settles_moments disk loans means new_size hot d solo moments;
+      reopens = reopens_settling new_size legal (disk.told d) (disk.told (store_of solo).disk) (settles_moments disk loans means new_size hot d solo moments);
       run = ends_as source sink (IsRunOf disk loans means solo after) _ status src out src' out' (λ acts answers range one.
-          answered disk loans means new_size most hot (disk.faults d) solo begins state held faults (disk.told d) after acts answers opened
+          answered disk loans means new_size most legal hot (disk.faults d) solo begins state held faults (disk.told d) after acts answers opened
           (told_once_settled hot (λ told. ((solo_tells disk loans means).state solo).newest ≡ Some (map_opened new_size (reads told))) (disk.told d) opened newest)
           (opened_since disk loans means new_size hot d solo moments opened) range one) run;
     }

@@ -1,6 +1,7 @@
 -- What a run of page lines over the files of a path comes to.
-use Rattle.std.specs.Prelude.{◌≡◌, ◌⊎◌, ℕ, true, List, [], ◌∷◌, ◌++◌, Option, Some, None, IfSome, codes}
+use Rattle.std.specs.Prelude.{◌≡◌, ◌⊎◌, ◌≤◌, ℕ, Bool, true, false, List, [], ◌∷◌, ◌++◌, Option, Some, None, IfSome, codes}
 use Rattle.disk_face.specs.Faults.{Rose}
+use Rattle.disk_face.specs.Files.{Files}
 use Rattle.disk_face.specs.Stays.{OnlyNames}
 use Rattle.disk_face.specs.Steps.{History, reads}
 use Rattle.disk_face.specs.Told.{IsNamed}
@@ -8,9 +9,13 @@ use Rattle.disk_face.specs.declared.tells.DiskTells as disks
 use Rattle.disk_face.specs.declared.source.Source as sources
 use Rattle.disk_face.specs.declared.sink.Sink as sinks
 use Rattle.page_spec.specs.PageMap.{PageMap}
+use Rattle.log_spec.specs.LogHeader.{last_generation}
+use Rattle.crash_spec.specs.Known.{IsWithoutChance}
 use Rattle.crash_spec.specs.Opening.{Opening, opening_at}
 use Rattle.crash_spec.specs.Moments.{AtEachMoment}
 use Rattle.opening_spec.specs.Begins.{MayOpen, view_at}
+use Rattle.opening_spec.specs.Found.{OpeningView}
+use Rattle.opening_spec.specs.States.{LeftAtStart, all_synced}
 use Rattle.engine_spec.specs.declared.pins.Lock.TheVariants.{Part1}
 use Rattle.engine_spec.specs.declared.pins.Pin.{Pin}
 use Rattle.engine_spec.specs.declared.pins.Readers.{Readers}
@@ -112,9 +117,16 @@ pub record IsPlayed (generation limit : ℕ) (begun ended : DiskPast) (acts : Li
   pub faults : last.faults ≡ ended.faults
   pub past : last.disk ≡ ended.past
 
+-- What a crash left is opened: where nothing in it is as it is by chance; where the generations leave room for the headers of the next
+-- opening; and whatever the journal answers but that it is hot.
+abbrev pub OpensAgain : Opening → History → Files → Type 0
+OpensAgain opening told image =
+    IsWithoutChance opening told image → generation_opened image ≤ last_generation
+    → (hot : Option Bool) → (hot ≡ Some true → ⊥) → AreOpened hot image
+
 -- And where the files are told: the answers are those of a run over the map with which the store began, and over its two logs; they are a
 -- function of the acts where no fault was counted. That run is serial, its history is legal, and at each moment of it a crash leaves one of
--- its maps, or that of the one commit whose log write failed.
+-- its maps, or that of the one commit whose log write failed, and what it leaves is opened again.
 pub record IsRunFrom (new_size generation limit : ℕ) (told : History) (begun ended : DiskPast) (acts : List Act) (answers : List Told) : Type 0 where
   pub after : LoggedWorld
   pub lines : Lines (opened_by new_size told) (first_world (map_opened new_size (reads told)) generation limit) begun acts answers after ended
@@ -123,6 +135,7 @@ pub record IsRunFrom (new_size generation limit : ℕ) (told : History) (begun e
   pub serial : IsSerial (map_opened new_size (reads told)) (exchanged acts answers)
   pub legal : IsLegalFrom (map_opened new_size (reads told)) after.world
   pub images : AtEach (opened_by new_size told) (may_leave_since 0 after) begun.past ended.past
+  pub opens : (opening : Opening) → opened_by new_size told opening → AtEachMoment opening (OpensAgain opening) begun.past ended.past
 
 -- both
 abbrev pub IsAnsweredOnDisk : (new_size generation limit : ℕ) → Option History → (begun ended : DiskPast) → List Act → List Told → Type 0
@@ -134,6 +147,17 @@ IsAnsweredOnDisk new_size generation limit told begun ended acts answers = IsPla
 abbrev pub Settles : (new_size : ℕ) → Option History → Option History → Type 0
 Settles new_size old new = (told : History) → old ≡ Some told → MayOpen (size_opened new_size (reads told)) told → MaySettle (reads told)
     → AtEachMoment (opening_at told) (LeavesSettling (view_at (size_opened new_size (reads told)) told) (map_opened new_size (reads told))) old new
+
+-- What a crash leaves then is opened again; or a log that isn't empty wasn't synced yet, and the crash leaves what it might have left at the
+-- start.
+abbrev pub OpensSettling : OpeningView → History → Files → Type 0
+OpensSettling view told image = OpensAgain view.opening told image ⊎ ((all_synced told ≡ false) × LeftAtStart view told image)
+
+-- While a store is opened whose files at the start nothing bars, so is at each moment what a crash leaves.
+abbrev pub Reopens : (new_size : ℕ) → Option History → Option History → Type 0
+Reopens new_size old new =
+    (told : History) → old ≡ Some told → MayOpen (size_opened new_size (reads told)) told → (hot : Option Bool) → AreOpened hot (reads told)
+    → AtEachMoment (opening_at told) (OpensSettling (view_at (size_opened new_size (reads told)) told)) old new
 
 -- The files couldn't be named.
 pub record Unnamed {D S K : Type 0} (disk : disks.Ghosts D) (sink : sinks.Ghosts K) (ended : Status) (d : D) (src : S) (out : K) (d' : D) (src' : S)
@@ -150,6 +174,7 @@ pub record Unopened {D S K : Type 0} (disk : disks.Ghosts D) (sink : sinks.Ghost
   pub why : OpenFault
   pub refused : RefusesOpen (disk.faults d) (disk.faults d') (disk.told d) (disk.told d') (disk.journal_answer d) why
   pub moments : Settles new_size (disk.told d) (disk.told d')
+  pub reopens : Reopens new_size (disk.told d) (disk.told d')
   pub says : SaysWhy sink why ended out out'
   pub untaken : src' ≡ src
 
@@ -162,6 +187,7 @@ pub record RunsStore {D S K : Type 0} (disk : disks.Ghosts D) (source : sources.
   pub faults : begun.faults ≡ disk.faults d
   pub opened : IfSome (disk.told d) (λ told. AreOpened (disk.journal_answer d) (reads told))
   pub moments : Settles new_size (disk.told d) begun.past
+  pub reopens : Reopens new_size (disk.told d) begun.past
   pub run : RunEnds source sink
       (IsAnsweredOnDisk new_size generation limit (disk.told d) begun (record { faults = disk.faults d'; past = disk.told d' })) ended src out src' out'
 

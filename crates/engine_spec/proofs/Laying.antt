@@ -283,7 +283,7 @@ with_header-length [] = refl
 with_header-length (first ∷ pages) = refl
 
 -- its page 1 has them
-with_header-first : (pages : PageMap) → 1 ≤ length pages → page_at (with_header pages) 1 ≡ stamped (length pages) (page_at pages 1)
+pub with_header-first : (pages : PageMap) → 1 ≤ length pages → page_at (with_header pages) 1 ≡ stamped (length pages) (page_at pages 1)
 with_header-first [] some = absurd (omega arith)
 with_header-first (first ∷ pages) some = refl
 

@@ -5,9 +5,10 @@ use Rattle.disk_face.specs.Steps.{History}
 use Rattle.disk_face.specs.Image.{MayLeave}
 use Rattle.page_spec.specs.PageMap.{PageMap}
 use Rattle.crash_spec.specs.Known.{IsWithoutChance}
+use Rattle.crash_spec.specs.Logs.{HaveOwnLogs}
 use Rattle.crash_spec.specs.Moments.{AtEachMoment}
 use Rattle.crash_spec.specs.Opening.{Opening, Since}
-use Rattle.crash_spec.specs.Recovered.{recovered}
+use Rattle.crash_spec.specs.Recovered.{recovered, NamesItsPages}
 use Rattle.engine_spec.specs.State.{Stop, EngineState}
 
 -- an optional map as a list
@@ -24,9 +25,11 @@ kept_map (Some stop) = if_told stop.map
 abbrev pub may_recover : EngineState → List PageMap
 may_recover state = if_told state.newest ++ kept_map state.stopped
 
--- an image of a moment recovers one of these maps, where nothing in it is as it is by chance
+-- An image of a moment, where nothing in it is as it is by chance, recovers one of these maps, none of its logs bars the next opening, and
+-- the map's page 1 names its pages, or Main's length does.
 abbrev pub RecoversOneOf : Opening → List PageMap → History → Files → Type 0
-RecoversOneOf opening maps told image = IsWithoutChance opening told image → Contains maps (recovered image)
+RecoversOneOf opening maps told image =
+    IsWithoutChance opening told image → Contains maps (recovered image) × HaveOwnLogs image × NamesItsPages image
 
 -- From the moment when the disk told the one history to the moment when it tells the other, each image of each moment recovers one of
 -- these maps, for each of these openings.

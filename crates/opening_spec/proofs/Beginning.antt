@@ -1,5 +1,5 @@
 -- As an opening begins its first state holds.
-use Rattle.std.proofs.Common.{◌≡◌, ℕ, ◌+◌, ◌%◌, ◌^◌, ◌≤◌, ◌<◌, ◌==◌, Bool, true, false, if◌then◌else◌, List, [], ◌∷◌, ◌++◌, length, take, Some, refl, sym, ◌∙◌, subst, arith, inl}
+use Rattle.std.proofs.Common.{◌≡◌, ℕ, ◌+◌, ◌%◌, ◌^◌, ◌≤◌, ◌<◌, ◌==◌, Bool, true, false, if◌then◌else◌, List, [], ◌∷◌, ◌++◌, length, take, max, Some, refl, sym, ◌∙◌, subst, arith, inl, inr}
 use Rattle.std.specs.Prelude.{All, ◌||◌}
 use Rattle.std.proofs.lemmas.Bool.Decides.{Decides-eqb}
 use Rattle.std.proofs.lemmas.List.{take-take, length-take}
@@ -146,6 +146,8 @@ begins size told may =
         main = may.main;
         fits = may.fits;
         is = refl;
+        sizes = λ had. (had Log1 tt, had Log2 tt);
+        keeps = (omega arith, λ is. inr is);
       };
       fewer = λ image left chance. (left, chance);
       whole = λ log c. absurd (contains_none log c);

@@ -1,5 +1,5 @@
 -- The first commit of a new or migrated database.
-use Rattle.std.proofs.Common.{◌≡◌, ◌≢◌, ℕ, ◌+◌, ◌%◌, ◌^◌, ◌≤◌, ◌<◌, Bool, true, false, if◌then◌else◌, inl, inr, List, [], ◌∷◌, ◌++◌, length, None, refl, sym, ◌∙◌, ap, subst, arith}
+use Rattle.std.proofs.Common.{◌≡◌, ◌≢◌, ℕ, ◌+◌, ◌*◌, ◌%◌, ◌^◌, ◌≤◌, ◌<◌, Bool, true, false, if◌then◌else◌, inl, inr, List, [], ◌∷◌, ◌++◌, length, max, None, refl, sym, ◌∙◌, ap, subst, arith}
 use Rattle.std.specs.Prelude.{All, nat_lt}
 use Rattle.std.proofs.lemmas.List.Elements.{All-cons, All-filter}
 use Rattle.disk_face.specs.declared.disk.File.TheVariants.{Main, Log1, Log2}
@@ -18,7 +18,7 @@ use Rattle.crash_spec.specs.Recovered.{overlaid}
 use Rattle.crash_spec.specs.Store.{named_size}
 use Rattle.crash_spec.proofs.Elsewhere.{whole_elsewhere, whole_synced, whole_file}
 use Rattle.crash_spec.proofs.Headers.{only_header, none_foreign}
-use Rattle.crash_spec.proofs.LogImages.{image_frames}
+use Rattle.crash_spec.proofs.LogImages.{image_frames, image_header}
 use Rattle.crash_spec.proofs.LogSteps.{on_written, on_refused, on_more, on_synced}
 use Rattle.crash_spec.proofs.Overwritten.{overwritten-front}
 use Rattle.crash_spec.proofs.Salts.{behind_more}
@@ -26,15 +26,18 @@ use Rattle.crash_spec.proofs.Switching.{recovered_alone, empty_either}
 use Rattle.opening_spec.specs.Found.{OpeningView, FoundLog}
 use Rattle.opening_spec.specs.States.{AreSynced, HasReset, IsFounding, LeavesEither}
 use Rattle.opening_spec.proofs.FoundLaws.{found_elsewhere, found_frames}
+use Rattle.opening_spec.proofs.Sizes.{first_sized, kept_image}
 
 pub founding_begins : (view : OpeningView) (later : PageMap) (header : LogFields) (one two : FoundLog) (told : History) → HasReset view Log1 header one two None told → two.frames ≡ []
-    → header.salt1 ≡ (one.salt + 1) % 2 ^ 32 → 100 ≤ view.size → IsFounding view later header [] (record { frames = []; salt = (one.salt + 1) % 2 ^ 32; most = one.most + 1 }) two told
-founding_begins view later header one two told has none salt some = record {
+    → header.salt1 ≡ (one.salt + 1) % 2 ^ 32 → 100 ≤ view.size → header.page_size ≡ view.size
+    → length (reads told).main ≤ max (length (reads view.opening.start).main) (length later * view.size) → IsFounding view later header [] (record { frames = []; salt = (one.salt + 1) % 2 ^ 32; most = one.most + 1 }) two told
+founding_begins view later header one two told has none salt some paged room = record {
   log1 = has.ready.on;
   only = has.written.log1.only;
   behind = has.written.log1.behind;
   ours = has.written.log1.ours;
   salt = salt;
+  paged = paged;
   log2 = has.written.log2;
   none = none;
   whole2 = has.written.whole2;
@@ -43,6 +46,8 @@ founding_begins view later header one two told has none salt some = record {
   lies = λ ends. absurd (ends refl);
   sized = λ ends. absurd (ends refl);
   some_size = some;
+  keeps = has.written.keeps;
+  room = room;
 }
 
 pub founding_images : (view : OpeningView) (later : PageMap) (header : LogFields) (pending : List Frame) (one two : FoundLog) (told : History) → IsFounding view later header pending one two told
@@ -51,10 +56,20 @@ founding_images view later header pending one two told f image left chance =
     let main : image.main ≡ (reads told).main = whole_file view.opening told Main image f.main left in
     let other : accepted_frames 2 image.log2 ≡ [] = found_frames view.opening told Log2 two f.log2 f.whole2 image left chance ∙ f.none in (
       elim (image_frames view.opening told Log1 header [] pending f.log1 image left chance) [
-        | inl old ↦ inl (recovered_alone Log1 image [] tt other old ∙ ap (λ (bytes : List ℕ). overlaid bytes [] []) main ∙ f.is)
-        | inr (ends, new) ↦ inr (recovered_alone Log1 image pending tt other new ∙ ap (λ (bytes : List ℕ). overlaid bytes [] pending) main ∙ f.lies ends)
+        | inl old ↦ inl (
+          recovered_alone Log1 image [] tt other old ∙ ap (λ (bytes : List ℕ). overlaid bytes [] []) main ∙ f.is,
+          kept_image view.opening view.size view.own view.map (reads told) image (left Main).no_longer (whole_file view.opening told Log2 image f.whole2 left) f.keeps,
+        )
+        | inr (ends, new) ↦ inr (
+          recovered_alone Log1 image pending tt other new ∙ ap (λ (bytes : List ℕ). overlaid bytes [] pending) main ∙ f.lies ends,
+          (omega (arith, (left Main).no_longer, f.room), λ is. inl refl),
+        )
       ],
-      none_foreign view.opening told image f.ours f.log2.ours chance,
+      (
+        none_foreign view.opening told image f.ours f.log2.ours chance,
+        λ had. first_sized view.size image
+            (ap (λ (fields : LogFields). fields.page_size) (image_header view.opening told Log1 header [] pending f.log1 image left) ∙ f.paged) other,
+      ),
     )
 
 -- one frame more is handed to a write
@@ -86,6 +101,7 @@ module _ (view : OpeningView) (later : PageMap) (header : LogFields) (pending : 
     behind = more_behind;
     ours = ours_more;
     salt = f.salt;
+    paged = f.paged;
     log2 = found_elsewhere view.opening told Log2 two (Wrote piece) refl f.log2;
     none = f.none;
     whole2 = whole_elsewhere view.opening Log2 (Wrote piece) told refl f.whole2;
@@ -94,6 +110,8 @@ module _ (view : OpeningView) (later : PageMap) (header : LogFields) (pending : 
     lies = λ ends. (lies ends).0;
     sized = λ ends. (lies ends).1;
     some_size = f.some_size;
+    keeps = f.keeps;
+    room = f.room;
   }
 
   pub founding_refused : (left : List ℕ) → IsFounding view later header (pending ++ frame ∷ []) one two (further (Refused piece left) told)
@@ -103,6 +121,7 @@ module _ (view : OpeningView) (later : PageMap) (header : LogFields) (pending : 
     behind = more_behind;
     ours = ours_more;
     salt = f.salt;
+    paged = f.paged;
     log2 = found_elsewhere view.opening told Log2 two (Refused piece left) refl f.log2;
     none = f.none;
     whole2 = whole_elsewhere view.opening Log2 (Refused piece left) told refl f.whole2;
@@ -111,6 +130,8 @@ module _ (view : OpeningView) (later : PageMap) (header : LogFields) (pending : 
     lies = λ ends. (lies ends).0;
     sized = λ ends. (lies ends).1;
     some_size = f.some_size;
+    keeps = f.keeps;
+    room = f.room;
   }
 
   -- nobody tried to write it
@@ -121,6 +142,7 @@ module _ (view : OpeningView) (later : PageMap) (header : LogFields) (pending : 
     behind = f.behind;
     ours = f.ours;
     salt = f.salt;
+    paged = f.paged;
     log2 = f.log2;
     none = f.none;
     whole2 = f.whole2;
@@ -129,12 +151,14 @@ module _ (view : OpeningView) (later : PageMap) (header : LogFields) (pending : 
     lies = λ ends. (lies ends).0;
     sized = λ ends. (lies ends).1;
     some_size = f.some_size;
+    keeps = f.keeps;
+    room = f.room;
   }
 
 -- The commit is on the medium: its pages may be written to Main.
 pub founded : (view : OpeningView) (later : PageMap) (header : LogFields) (pending : List Frame) (one two : FoundLog) (told : History) → IsFounding view later header pending one two told
     → last_size pending ≢ 0 → AreCommitted (reads told).log1 pending → end_of pending ≤ length (reads told).log1
-    → AreSynced (record view { map = later }) (record { frames = pending; salt = one.salt; most = one.most }) two (further (Synced Log1) told)
+    → AreSynced (record view { map = later; own = true }) (record { frames = pending; salt = one.salt; most = one.most }) two (further (Synced Log1) told)
 founded view later header pending one two told f ends committed long = record {
   opened = record {
     log1 = record {
@@ -148,6 +172,11 @@ founded view later header pending one two told f ends committed long = record {
     main = λ place inside none. whole_elsewhere view.opening Main (Synced Log1) told tt f.main place inside;
     fits = inr (f.some_size, either_size first ∙ f.sized ends);
     is = either_map first ∙ f.lies ends;
+    sizes = λ had. (
+      λ some. ap (λ (fields : LogFields). fields.page_size) f.log1.same_header ∙ f.paged,
+      λ some. absurd (some f.none),
+    );
+    keeps = (f.room, λ is. inl refl);
   };
   whole1 = whole_synced view.opening Log1 told;
   whole2 = whole_elsewhere view.opening Log2 (Synced Log1) told tt f.whole2;

@@ -1,42 +1,17 @@
 -- Once all pages of the map were written to Main, it is the map without the logs too.
 use Rattle.std.proofs.Common.{◌≡◌, max, ℕ, zero, suc, ◌+◌, ◌-◌, ◌*◌, ◌≤◌, ◌<◌, Bool, true, false, if◌then◌else◌, inl, inr, List, [], ◌∷◌, length, take, drop, refl, sym, ◌∙◌, ap, subst, arith, get_or-take}
-use Rattle.page_spec.specs.Bytes.{u16_at}
-use Rattle.log_spec.proofs.HeaderLaws.{u32_at-take}
 use Rattle.page_spec.specs.Header.{fields_of, page_size_in, pages_in}
 use Rattle.page_spec.specs.PageMap.{PageMap, page_at}
 use Rattle.log_spec.specs.Accept.{Frame}
 use Rattle.crash_spec.specs.Recovered.{main_page, page_after_frames, pages_from, overlaid, laid_over, first_bytes, size_after}
 use Rattle.crash_spec.specs.Store.{named_size}
 use Rattle.crash_spec.proofs.Overlaid.{held_or_not}
+pub use Rattle.crash_spec.proofs.FirstPage.{header-take, page_1_is}
 use Rattle.std.specs.Prelude.{◌⊎◌, nat_lt}
 use Rattle.disk_face.specs.Steps.{History, reads}
 use Rattle.log_spec.specs.LogHeader.{log_fields}
 use Rattle.opening_spec.specs.Found.{OpeningView, FoundLog, NamesItsSize, IsEmpty, size_named, older_in, newer_in}
 use Rattle.opening_spec.specs.States.{IsOpened, IsLaidDown, AreWritten, AreLaid}
-
--- the header's fields stand in the first 100 bytes
-u16_at-take : (n : ℕ) (bytes : List ℕ) (at : ℕ) → at + 2 ≤ n → u16_at (take n bytes) at ≡ u16_at bytes at
-unfolding u16_at
-u16_at-take n bytes at within = rw (get_or-take n bytes at 0 (omega arith), get_or-take n bytes (at + 1) 0 (omega arith)) refl
-
-pub header-take : (n : ℕ) (bytes : List ℕ) → 100 ≤ n → fields_of (take n bytes) ≡ fields_of bytes
-unfolding fields_of
-header-take n bytes long =
-    rw (
-      u16_at-take n bytes 16 (omega arith),
-      get_or-take n bytes 18 0 (omega arith),
-      get_or-take n bytes 19 0 (omega arith),
-      get_or-take n bytes 20 0 (omega arith),
-      u32_at-take n bytes 24 (omega arith),
-      u32_at-take n bytes 28 (omega arith),
-      u32_at-take n bytes 32 (omega arith),
-      u32_at-take n bytes 36 (omega arith),
-      u32_at-take n bytes 40 (omega arith),
-      u32_at-take n bytes 44 (omega arith),
-      u32_at-take n bytes 52 (omega arith),
-      u32_at-take n bytes 56 (omega arith),
-      u32_at-take n bytes 92 (omega arith),
-    ) refl
 
 same_pages_in : (a b : List ℕ) (n : ℕ) → fields_of a ≡ fields_of b → pages_in a n ≡ pages_in b n
 unfolding pages_in
@@ -57,12 +32,6 @@ newer_leaves older newer number page is =
       | inl held ↦ held page (page_after_frames older number page) ∙ is
       | inr (none, leaves) ↦ leaves page
     ]
-
-pub page_1_is : (size : ℕ) (main : List ℕ) → main_page size main 1 ≡ take size main
-page_1_is size main = ap (λ (n : ℕ). take size (drop n main)) no_place
-  where
-    no_place : (1 - 1) * size ≡ 0
-    no_place = grind arith
 
 module _ (size : ℕ) (some : 100 ≤ size) (main : List ℕ) (older newer : List Frame) (count : ℕ) (has : 1 ≤ count) (laid : AreLaid size main older newer (count + 1))
     (sized : named_size main older newer ≡ size) (counts : size_after newer (size_after older (pages_in (first_bytes main older newer) (length main))) ≡ count)
@@ -198,6 +167,8 @@ laid_down view one two told d some names = (
     fits = (go names s.fits).0;
     is = s.is;
     bare = (go names s.fits).1;
+    sizes = s.sizes;
+    keeps = s.keeps;
   },
   (go names s.fits).2,
 )

@@ -1,3 +1,4 @@
+pub mod Sizes
 pub mod FoundLaws
 pub mod Synced
 pub mod Syncing

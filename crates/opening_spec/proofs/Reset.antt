@@ -30,8 +30,9 @@ use Rattle.crash_spec.proofs.Salts.{next_is_fresh, behind_next}
 use Rattle.crash_spec.proofs.StoreSteps.{log_apart, other_twice, other_is_log}
 use Rattle.crash_spec.proofs.Switching.{empty_either, recovered_alone, torn_log, torn_same, torn_known, WritesFront}
 use Rattle.opening_spec.specs.Found.{FoundLog, IsFound, OpeningView, IsNextHeader, older_in, newer_in, map_in, found_log, frames_in, one_after, two_after, next_log}
-use Rattle.opening_spec.specs.States.{AreWritten, IsReset, MayReset, LeavesMap}
+use Rattle.opening_spec.specs.States.{AreWritten, IsReset, MayReset, MayBeOurs, KeepsTo, LeavesMap}
 use Rattle.opening_spec.proofs.FoundLaws.{found_elsewhere, found_frames}
+use Rattle.opening_spec.proofs.Sizes.{both_sized, other_sized, kept_image}
 use Rattle.opening_spec.proofs.Synced.{recovered_by}
 
 -- with an empty log the order of the logs doesn't matter
@@ -64,7 +65,14 @@ module _ (view : OpeningView) (one two : FoundLog) (told : History) (w : AreWrit
   frames_are Log1 is = refl
   frames_are Log2 is = refl
 
-  module _ (log : File) (new_bytes : List ℕ) (next : IsNextHeader log (found_log log one two) new_bytes) (may : MayReset view log one two told) where
+  -- of files with the same Main, whose log is new and whose other log is as it was
+  kept_now : (files : Files) (log : File) → IsLog log → (log ≡ Log2 → MayBeOurs view) → files.main ≡ (reads told).main → content files (other_of log) ≡ content (reads told) (other_of log)
+      → KeepsTo view.opening view.size view.own view.map files
+  kept_now files Main is owns main same = absurd is
+  kept_now files Log1 is owns main same = kept_image view.opening view.size view.own view.map (reads told) files (omega (arith, ap (λ (bytes : List ℕ). length bytes) main)) same w.keeps
+  kept_now files Log2 is owns main same = (omega (arith, w.keeps.0, ap (λ (bytes : List ℕ). length bytes) main), λ ours. owns refl)
+
+  module _ (log : File) (new_bytes : List ℕ) (next : IsNextHeader log (found_log log one two) new_bytes) (may : MayReset view log one two told) (owns : log ≡ Log2 → MayBeOurs view) where
     abbrev new_piece : Piece
     new_piece = record { file = log; at = 0; bytes = new_bytes }
 
@@ -115,18 +123,24 @@ module _ (view : OpeningView) (one two : FoundLog) (told : History) (w : AreWrit
         (All-cons (IsOursAt log) new_piece (known_pieces view.opening told) (λ is at signed. next.ours) (found_in log next.is_log).ours) in
         let both_ours = ours_both (known_pieces view.opening (further step told)) log next.is_log ours_here other_found.ours in
         let foreign : NoneForeign image = none_foreign view.opening (further step told) image both_ours.0 both_ours.1 chance in
+        let keeps : KeepsTo view.opening view.size view.own view.map image = kept_now image log next.is_log owns main_is other_is in
         elim (torn_log (known_pieces view.opening told) log new_bytes (content (reads told) log) found (found_in log next.is_log).only next.long next.ours new_is_fresh
         (torn_same view.opening told log new_bytes left step writes whole image leaves) known_all) [
           | inl same ↦
               let frames = both_frames image log next.is_log (same_frames same) other_frames in
-              let files = both_files image (reads told) log next.is_log same other_is in
-              (recovered_by image one two frames.0 frames.1 ∙ same_map image (reads told) files.0 files.1 main_is ∙ w.is, foreign)
+              let files = both_files image (reads told) log next.is_log same other_is in (
+                (recovered_by image one two frames.0 frames.1 ∙ same_map image (reads told) files.0 files.1 main_is ∙ w.is, keeps),
+                (foreign, λ had. both_sized view.size one two image (reads told) files.0 files.1 frames.0 frames.1 (w.sizes had)),
+              )
           | inr none ↦ (
-            recovered_alone (other_of log) image (frames_in (other_of log) one two) is_other
-                (subst (λ (file : File). accepted_frames (number_of file) (content image file) ≡ []) (sym (other_twice log)) none) other_frames
-                ∙ ap (λ (main : List ℕ). overlaid main [] (frames_in (other_of log) one two)) main_is
-                ∙ may,
-            foreign,
+            (
+              recovered_alone (other_of log) image (frames_in (other_of log) one two) is_other
+                  (subst (λ (file : File). accepted_frames (number_of file) (content image file) ≡ []) (sym (other_twice log)) none) other_frames
+                  ∙ ap (λ (main : List ℕ). overlaid main [] (frames_in (other_of log) one two)) main_is
+                  ∙ may,
+              keeps,
+            ),
+            (foreign, λ had. other_sized view.size log one two image (reads told) next.is_log none other_is other_frames (w.sizes had)),
           )
         ]
       where
@@ -206,15 +220,18 @@ module _ (view : OpeningView) (one two : FoundLog) (told : History) (w : AreWrit
         whole_elsewhere view.opening Main (Synced log) (further (Wrote new_piece) told) tt
         (whole_elsewhere view.opening Main (Wrote new_piece) told (log_apart log next.is_log).1 w.main)
 
+    other_same : content (reads synced) (other_of log) ≡ content (reads told) (other_of log)
+    other_same = content_elsewhere (other_of log) (Wrote new_piece) told (log_apart log next.is_log).0
+
     -- and the map is the same
     pub reset_written : AreWritten view (one_after log one) (two_after log two) synced
-    reset_written = all_after log next.is_log found_after other_after (whole_synced view.opening log (further (Wrote new_piece) told)) other_whole may
+    reset_written = all_after log next.is_log owns found_after other_after (whole_synced view.opening log (further (Wrote new_piece) told)) other_whole may other_same
       where
-        all_after : (file : File) → IsLog file → IsFound view.opening synced file (next_log (found_log file one two)) → IsFound view.opening synced (other_of file) (found_log (other_of file) one two)
+        all_after : (file : File) → IsLog file → (file ≡ Log2 → MayBeOurs view) → IsFound view.opening synced file (next_log (found_log file one two)) → IsFound view.opening synced (other_of file) (found_log (other_of file) one two)
             → IsWhole view.opening synced file → IsWhole view.opening synced (other_of file) → overlaid (reads told).main [] (frames_in (other_of file) one two) ≡ view.map
-            → AreWritten view (one_after file one) (two_after file two) synced
-        all_after Main is here there whole whole' alone = absurd is
-        all_after Log1 is here there whole whole' alone = record {
+            → content (reads synced) (other_of file) ≡ content (reads told) (other_of file) → AreWritten view (one_after file one) (two_after file two) synced
+        all_after Main is own here there whole whole' alone same = absurd is
+        all_after Log1 is own here there whole whole' alone same = record {
           log1 = here;
           log2 = there;
           whole1 = whole;
@@ -224,8 +241,13 @@ module _ (view : OpeningView) (one two : FoundLog) (told : History) (w : AreWrit
           is = ap (λ (main : List ℕ). overlaid main (older_in (reads synced) (next_log one) two) (newer_in (reads synced) (next_log one) two)) main_after
               ∙ either (nat_lt (log_fields (reads synced).log1).generation (log_fields (reads synced).log2).generation) (reads told).main two.frames ∙ alone;
           bare = ap (λ (main : List ℕ). overlaid main [] []) main_after ∙ w.bare;
+          sizes = λ had. (
+            λ some. absurd (some refl),
+            λ some. ap (λ (bytes : List ℕ). (log_fields bytes).page_size) same ∙ (w.sizes had).1 some,
+          );
+          keeps = kept_now (reads synced) Log1 is own main_after same;
         }
-        all_after Log2 is here there whole whole' alone = record {
+        all_after Log2 is own here there whole whole' alone same = record {
           log1 = there;
           log2 = here;
           whole1 = whole';
@@ -235,6 +257,11 @@ module _ (view : OpeningView) (one two : FoundLog) (told : History) (w : AreWrit
           is = ap (λ (main : List ℕ). overlaid main (older_in (reads synced) one (next_log two)) (newer_in (reads synced) one (next_log two))) main_after
               ∙ either' (nat_lt (log_fields (reads synced).log1).generation (log_fields (reads synced).log2).generation) (reads told).main one.frames ∙ alone;
           bare = ap (λ (main : List ℕ). overlaid main [] []) main_after ∙ w.bare;
+          sizes = λ had. (
+            λ some. ap (λ (bytes : List ℕ). (log_fields bytes).page_size) same ∙ (w.sizes had).0 some,
+            λ some. absurd (some refl),
+          );
+          keeps = kept_now (reads synced) Log2 is own main_after same;
         }
 
     -- with the other log as it was
@@ -252,11 +279,17 @@ pub written_images : (view : OpeningView) (one two : FoundLog) (told : History) 
 written_images view one two told w image left chance =
     let is1 : image.log1 ≡ (reads told).log1 = whole_file view.opening told Log1 image w.whole1 left in
     let is2 : image.log2 ≡ (reads told).log2 = whole_file view.opening told Log2 image w.whole2 left in
-    let main : image.main ≡ (reads told).main = whole_file view.opening told Main image w.main left in (
-      recovered_by image one two (found_frames view.opening told Log1 one w.log1 w.whole1 image left chance)
-          (found_frames view.opening told Log2 two w.log2 w.whole2 image left chance)
-          ∙ same_maps image (reads told) is1 is2 main ∙ w.is,
-      none_foreign view.opening told image w.log1.ours w.log2.ours chance,
+    let main : image.main ≡ (reads told).main = whole_file view.opening told Main image w.main left in
+    let frames1 = found_frames view.opening told Log1 one w.log1 w.whole1 image left chance in
+    let frames2 = found_frames view.opening told Log2 two w.log2 w.whole2 image left chance in (
+      (
+        recovered_by image one two frames1 frames2 ∙ same_maps image (reads told) is1 is2 main ∙ w.is,
+        kept_image view.opening view.size view.own view.map (reads told) image (left Main).no_longer is2 w.keeps,
+      ),
+      (
+        none_foreign view.opening told image w.log1.ours w.log2.ours chance,
+        λ had. both_sized view.size one two image (reads told) is1 is2 frames1 frames2 (w.sizes had),
+      ),
     )
   where
     same_maps : (image read : Files) → image.log1 ≡ read.log1 → image.log2 ≡ read.log2 → image.main ≡ read.main → map_in image one two ≡ map_in read one two

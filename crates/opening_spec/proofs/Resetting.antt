@@ -2,6 +2,7 @@
 use Rattle.std.proofs.Common.{◌≡◌, ◌⊎◌, ℕ, ◌≤◌, inl, inr, List, length, refl, sym, ◌∙◌, ap, subst, Option, Some, None}
 use Rattle.std.specs.Prelude.{IfSome}
 use Rattle.disk_face.specs.declared.disk.File.{File}
+use Rattle.disk_face.specs.declared.disk.File.TheVariants.{Log2}
 use Rattle.disk_face.specs.declared.step.Piece.{Piece}
 use Rattle.disk_face.specs.declared.step.Step.TheVariants.{Wrote, Refused, Synced}
 use Rattle.disk_face.specs.Files.{Files}
@@ -15,10 +16,11 @@ use Rattle.crash_spec.specs.Passes.{Passes}
 use Rattle.crash_spec.proofs.Passing.{passes_step, passes_refused, passes_join, passes_weaker}
 use Rattle.crash_spec.proofs.Switching.{front_written, front_refused}
 use Rattle.opening_spec.specs.Found.{OpeningView, FoundLog, IsNextHeader, found_log, one_after, two_after}
-use Rattle.opening_spec.specs.States.{IsResetting, HasReset, IsReset, LeavesMap}
+use Rattle.opening_spec.specs.States.{IsResetting, HasReset, IsReset, MayBeOurs, LeavesMap}
 use Rattle.opening_spec.proofs.Reset.{reset_images, reset_ready, reset_written, other_ready, written_images}
 
-module _ (view : OpeningView) (log : File) (one two : FoundLog) (beside : Option LogFields) (bytes : List ℕ) (next : IsNextHeader log (found_log log one two) bytes) where
+module _ (view : OpeningView) (log : File) (one two : FoundLog) (beside : Option LogFields) (bytes : List ℕ) (next : IsNextHeader log (found_log log one two) bytes)
+    (owns : log ≡ Log2 → MayBeOurs view) where
   abbrev piece : Piece
   piece = record { file = log; at = 0; bytes = bytes }
 
@@ -42,13 +44,13 @@ module _ (view : OpeningView) (log : File) (one two : FoundLog) (beside : Option
   sent_gives : (later : History) → Sent later → (image : Files) → MayLeave view.opening.before later image → LeavesMap view later image
   sent_gives later (told, b, is) =
       subst (λ (later : History). (image : Files) → MayLeave view.opening.before later image → LeavesMap view later image) (sym is)
-      (reset_images view one two told b.written log bytes next b.may (Wrote piece) bytes (front_written view.opening told log bytes next.long))
+      (reset_images view one two told b.written log bytes next b.may owns (Wrote piece) bytes (front_written view.opening told log bytes next.long))
 
   tried_gives : (later : History) → Tried later → (image : Files) → MayLeave view.opening.before later image → LeavesMap view later image
   tried_gives later (inl b) = before_gives later b
   tried_gives later (inr (told, left, few, b, is)) =
       subst (λ (later : History). (image : Files) → MayLeave view.opening.before later image → LeavesMap view later image) (sym is)
-      (reset_images view one two told b.written log bytes next b.may (Refused piece left) left (front_refused view.opening told log bytes left next.long few))
+      (reset_images view one two told b.written log bytes next b.may owns (Refused piece left) left (front_refused view.opening told log bytes left next.long few))
 
   done_gives : (told : History) → Done told → (image : Files) → MayLeave view.opening.before told image → LeavesMap view told image
   done_gives told d image left = written_images view (one_after log one) (two_after log two) told d.written image left
@@ -56,13 +58,13 @@ module _ (view : OpeningView) (log : File) (one two : FoundLog) (beside : Option
   beside_ready : (beside : Option LogFields) (told : History) (b : IsResetting view log one two beside told) → IfSome beside (λ header. IsReset view (other_of log) header told)
       → IfSome beside (λ header. IsReset view (other_of log) header (further (Synced log) (further (Wrote piece) told)))
   beside_ready None told b other = tt
-  beside_ready (Some header) told b other = other_ready view one two told b.written log bytes next b.may header other
+  beside_ready (Some header) told b other = other_ready view one two told b.written log bytes next b.may owns header other
 
   done_is : (later : History) → Sent later → Done (further (Synced log) later)
   done_is later (told, b, is) =
       subst (λ (later : History). HasReset view log (log_fields bytes) one two beside (further (Synced log) later)) (sym is) (record {
-        written = reset_written view one two told b.written log bytes next b.may;
-        ready = reset_ready view one two told b.written log bytes next b.may;
+        written = reset_written view one two told b.written log bytes next b.may owns;
+        ready = reset_ready view one two told b.written log bytes next b.may owns;
         other = beside_ready beside told b b.other;
       })
 

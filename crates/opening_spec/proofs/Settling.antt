@@ -91,6 +91,8 @@ bare_resetting view log one two told is none neither s =
         fits = bare.0;
         is = s.opened.is;
         bare = bare.1;
+        sizes = s.opened.sizes;
+        keeps = s.opened.keeps;
       };
       may = without_first view log one two told is s.opened.is (no_frames log);
       other = tt;

@@ -21,6 +21,7 @@ use Rattle.crash_spec.proofs.StoreImages.{page_same, first_same}
 use Rattle.opening_spec.specs.Found.{OpeningView, FoundLog, older_in, newer_in, map_in, pages_held}
 use Rattle.opening_spec.specs.States.{AreSynced, LeavesMap}
 use Rattle.opening_spec.proofs.FoundLaws.{found_frames}
+use Rattle.opening_spec.proofs.Sizes.{both_sized, kept_image}
 
 -- what is recovered, by the frames of the two logs
 by_order : (first : Bool) (main : List ℕ) (one two : List Frame)
@@ -80,11 +81,17 @@ synced_images view one two told s image left chance =
           (λ number from no nor. sym (page_same view.opening told view.size (pages_held one two) image s.opened.main left number (omega arith) from (neither_in first one.frames two.frames number no nor)))
           (λ no nor. sym (first_same view.opening told view.size (pages_held one two) image s.opened.main left some (neither_in first one.frames two.frames 1 no nor)))
           sized)
-    ] in (
-      recovered_by image one two (found_frames view.opening told Log1 one s.opened.log1 s.whole1 image left chance)
-          (found_frames view.opening told Log2 two s.opened.log2 s.whole2 image left chance)
-          ∙ orders ∙ mains ∙ s.opened.is,
-      none_foreign view.opening told image s.opened.log1.ours s.opened.log2.ours chance,
+    ] in
+    let frames1 = found_frames view.opening told Log1 one s.opened.log1 s.whole1 image left chance in
+    let frames2 = found_frames view.opening told Log2 two s.opened.log2 s.whole2 image left chance in (
+      (
+        recovered_by image one two frames1 frames2 ∙ orders ∙ mains ∙ s.opened.is,
+        kept_image view.opening view.size view.own view.map (reads told) image (left Main).no_longer is2 s.opened.keeps,
+      ),
+      (
+        none_foreign view.opening told image s.opened.log1.ours s.opened.log2.ours chance,
+        λ had. both_sized view.size one two image (reads told) is1 is2 frames1 frames2 (s.opened.sizes had),
+      ),
     )
   where
     no_bytes : (bytes : List ℕ) → length bytes ≡ 0 → bytes ≡ []

@@ -31,6 +31,8 @@ opened_synced view one two told file o = record {
   main = λ place inside none. sure_elsewhere view.opening.before Main (Synced file) told place tt (o.main place inside none);
   fits = o.fits;
   is = o.is;
+  sizes = o.sizes;
+  keeps = o.keeps;
 }
 
 pub syncing_goes : (view : OpeningView) (one two : FoundLog) (synced : List File) (log : File) (told : History) → IsSyncing view one two synced told

@@ -33,7 +33,7 @@ module _ (view : OpeningView) (one two : FoundLog) where
   synced_gives : (told : History) → AreSynced view one two told → (image : Files) → MayLeave view.opening.before told image → LeavesMap view told image
   synced_gives told s = synced_images view one two told s
 
-  module _ (number : ℕ) (held : Contains (pages_held one two) number) (from : 1 ≤ number) (bytes : List ℕ) (whole : length bytes ≡ view.size) where
+  module _ (number : ℕ) (held : Contains (pages_held one two) number) (from : 1 ≤ number) (within_map : number ≤ length view.map) (bytes : List ℕ) (whole : length bytes ≡ view.size) where
     page_at_start : (old : Option History) → IfSome old (λ told. bytes ≡ page_in view.size (reads told) one two number) → (since : List Step) → old ≡ Some (grown since view.opening.start)
         → bytes ≡ page_in view.size (reads (rebased view.opening.start since)) one two number
     page_at_start old is since grew =
@@ -45,9 +45,9 @@ module _ (view : OpeningView) (one two : FoundLog) where
     page_done old is h =
         passes_step view.opening (LeavesMap view) (At number) (At (number + 1)) (Wrote (page_piece number view.size bytes)) (writing_gives number) (writing_gives (number + 1)) old
         (λ since grew w. record {
-          synced = page_written view one two (rebased view.opening.start since) w.synced number held from bytes whole (reaches view one two number (rebased view.opening.start since) w);
-          laid = page_laid view one two (rebased view.opening.start since) w.synced number held from bytes whole (reaches view one two number (rebased view.opening.start since) w) w.laid (page_at_start old is since grew);
-          long = page_long view one two (rebased view.opening.start since) w.synced number held from bytes whole (reaches view one two number (rebased view.opening.start since) w) view.long w.long;
+          synced = page_written view one two (rebased view.opening.start since) w.synced number held from within_map bytes whole (reaches view one two number (rebased view.opening.start since) w);
+          laid = page_laid view one two (rebased view.opening.start since) w.synced number held from within_map bytes whole (reaches view one two number (rebased view.opening.start since) w) w.laid (page_at_start old is since grew);
+          long = page_long view one two (rebased view.opening.start since) w.synced number held from within_map bytes whole (reaches view one two number (rebased view.opening.start since) w) view.long w.long;
         }) h
 
     pub page_fails : (old new : Option History) → Refuses (page_piece number view.size bytes) old new → Since view.opening.start (IsWriting view one two number) old
@@ -55,7 +55,7 @@ module _ (view : OpeningView) (one two : FoundLog) where
     page_fails old new refused h =
         passes_refused view.opening (LeavesMap view) (At number) (AreSynced view one two) (page_piece number view.size bytes) (writing_gives number) synced_gives old new
         (λ told w. w.synced)
-        (λ left within since grew w. page_refused view one two (rebased view.opening.start since) w.synced number held from bytes whole (reaches view one two number (rebased view.opening.start since) w) left within) h refused
+        (λ left within since grew w. page_refused view one two (rebased view.opening.start since) w.synced number held from within_map bytes whole (reaches view one two number (rebased view.opening.start since) w) left within) h refused
 
   -- Main is synced
   pub main_done : (next : ℕ) (old : Option History) → Since view.opening.start (IsWriting view one two next) old
@@ -82,14 +82,14 @@ module _ (view : OpeningView) (one two : FoundLog) where
 
 -- the same, where the disk tells
 module _ (view : OpeningView) (one two : FoundLog) (number : ℕ) (from : 1 ≤ number) (bytes : List ℕ) (whole : length bytes ≡ view.size) where
-  pub told_page_done : (old : Option History) → IfSome old (λ told. Contains (pages_held one two) number × (bytes ≡ page_in view.size (reads told) one two number)) → Since view.opening.start (IsWriting view one two number) old
+  pub told_page_done : (old : Option History) → IfSome old (λ told. Contains (pages_held one two) number × (bytes ≡ page_in view.size (reads told) one two number) × (number ≤ length view.map)) → Since view.opening.start (IsWriting view one two number) old
       → Passes view.opening (LeavesMap view) (IsWriting view one two (number + 1)) old (after (Wrote (page_piece number view.size bytes)) old)
   told_page_done None is h = record { each_moment = tt; holds = tt }
-  told_page_done (Some told) (held, is) h = page_done view one two number held from bytes whole (Some told) is h
+  told_page_done (Some told) (held, is, within_map) h = page_done view one two number held from within_map bytes whole (Some told) is h
 
-  pub told_page_fails : (old new : Option History) → IfSome old (λ told. Contains (pages_held one two) number × (bytes ≡ page_in view.size (reads told) one two number))
+  pub told_page_fails : (old new : Option History) → IfSome old (λ told. Contains (pages_held one two) number × (bytes ≡ page_in view.size (reads told) one two number) × (number ≤ length view.map))
       → Refuses (page_piece number view.size bytes) old new → Since view.opening.start (IsWriting view one two number) old
       → Passes view.opening (LeavesMap view) (AreSynced view one two) old new
   told_page_fails None new is (inl same) h = subst (λ told. Passes view.opening (LeavesMap view) (AreSynced view one two) None told) (sym same) (record { each_moment = tt; holds = tt })
   told_page_fails None new is (inr (left, within, same)) h = subst (λ told. Passes view.opening (LeavesMap view) (AreSynced view one two) None told) (sym same) (record { each_moment = tt; holds = tt })
-  told_page_fails (Some told) new (held, is) refused h = page_fails view one two number held from bytes whole (Some told) new refused h
+  told_page_fails (Some told) new (held, is, within_map) refused h = page_fails view one two number held from within_map bytes whole (Some told) new refused h

@@ -89,8 +89,19 @@ whole_page size (suc page) one =
     distribute : page * size + size ≡ suc page * size
     distribute = grind arith
 
+-- a page of the map ends within it
+page_within : (number count size : ℕ) → 1 ≤ number → number ≤ count → (number - 1) * size + size ≤ count * size
+page_within zero count size from within = absurd (omega arith)
+page_within (suc k) count size from within =
+    let there : count ≡ suc k + (count - suc k) = omega arith in
+    let back : suc k - 1 ≡ k = omega arith in
+    rw back (subst (λ (n : ℕ). k * size + size ≤ n * size) (sym there) (by k (count - suc k)))
+  where
+    by : (k d : ℕ) → k * size + size ≤ (suc k + d) * size
+    by k d = let all : (suc k + d) * size ≡ k * size + size + d * size = grind arith in omega (arith, all)
+
 module _ (view : OpeningView) (one two : FoundLog) (told : History) (s : AreSynced view one two told) (number : ℕ) (held : Contains (pages_held one two) number) (from : 1 ≤ number)
-    (bytes : List ℕ) (whole : length bytes ≡ view.size) (reached : (number - 1) * view.size ≤ length (reads told).main) where
+    (within_map : number ≤ length view.map) (bytes : List ℕ) (whole : length bytes ≡ view.size) (reached : (number - 1) * view.size ≤ length (reads told).main) where
   abbrev piece : Piece
   piece = page_piece number view.size bytes
 
@@ -145,6 +156,11 @@ module _ (view : OpeningView) (one two : FoundLog) (told : History) (s : AreSync
       (λ low high. sym (first_stays view.size number from fits.0 (reads told).main left within reached (apart 1 low high)))
       fits.1)
 
+  -- Main gets no longer than the map
+  no_longer : (left : List ℕ) → length left ≤ view.size → length (main_after left) ≤ max (length (reads view.opening.start).main) (length view.map * view.size)
+  no_longer left within =
+      omega (arith, s.opened.keeps.0, length-overwritten ((number - 1) * view.size) left (reads told).main reached, page_within number (length view.map) view.size from within_map)
+
   pub page_written : AreSynced view one two (further (Wrote piece) told)
   page_written = record {
     opened = record {
@@ -153,6 +169,8 @@ module _ (view : OpeningView) (one two : FoundLog) (told : History) (s : AreSync
       main = sure_after bytes (omega arith);
       fits = inr (fits.0, named_after bytes (omega arith));
       is = same_after bytes (omega arith) ∙ s.opened.is;
+      sizes = s.opened.sizes;
+      keeps = (no_longer bytes (omega arith), s.opened.keeps.1);
     };
     whole1 = whole_elsewhere view.opening Log1 (Wrote piece) told refl s.whole1;
     whole2 = whole_elsewhere view.opening Log2 (Wrote piece) told refl s.whole2;
@@ -166,6 +184,8 @@ module _ (view : OpeningView) (one two : FoundLog) (told : History) (s : AreSync
       main = sure_after left (omega arith);
       fits = inr (fits.0, named_after left (omega arith));
       is = same_after left (omega arith) ∙ s.opened.is;
+      sizes = s.opened.sizes;
+      keeps = (no_longer left (omega arith), s.opened.keeps.1);
     };
     whole1 = whole_elsewhere view.opening Log1 (Refused piece left) told refl s.whole1;
     whole2 = whole_elsewhere view.opening Log2 (Refused piece left) told refl s.whole2;

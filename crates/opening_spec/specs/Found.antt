@@ -1,5 +1,5 @@
 -- What an opening finds: in each log its frames and its last first salt, and the map that these make over Main.
-use Rattle.std.specs.Prelude.{◌≡◌, ◌⊎◌, ℕ, ◌+◌, ◌*◌, ◌%◌, ◌^◌, ◌<◌, ◌≤◌, max, nat_lt, if◌then◌else◌, List, [], ◌++◌, length, All}
+use Rattle.std.specs.Prelude.{◌≡◌, ◌⊎◌, ℕ, ◌+◌, ◌*◌, ◌%◌, ◌^◌, ◌<◌, ◌≤◌, max, nat_lt, if◌then◌else◌, List, [], ◌++◌, length, All, Bool}
 use Rattle.disk_face.specs.declared.disk.File.{File}
 use Rattle.disk_face.specs.declared.disk.File.TheVariants.{Main, Log1, Log2}
 use Rattle.disk_face.specs.Files.{Files, content}
@@ -35,12 +35,14 @@ pub record IsFound (opening : Opening) (told : History) (log : File) (has : Foun
   pub behind : AreBehind (known_pieces opening told) log has.salt has.most
   pub ours : All (IsOursAt log) (known_pieces opening told)
 
--- What an opening goes by: when it began, the page size, how long Main was, and the map that is recovered.
+-- What an opening goes by: when it began, the page size, how long Main was, the map that is recovered, and whether that has this program's
+-- versions.
 pub record OpeningView : Type 0 where
   pub opening : Opening
   pub size : ℕ
   pub long : ℕ
   pub map : PageMap
+  pub own : Bool
 
 -- the frames of the log of lower generation, which lie below the other's, and those of the other
 abbrev pub older_in : Files → FoundLog → FoundLog → List Frame
@@ -56,6 +58,11 @@ map_in files one two = overlaid files.main (older_in files one two) (newer_in fi
 -- the bytes that a page has in it
 abbrev pub page_in : ℕ → Files → FoundLog → FoundLog → ℕ → List ℕ
 page_in size files one two number = page_after_frames (newer_in files one two) number (page_after_frames (older_in files one two) number (main_page size files.main number))
+
+-- each of the logs that has frames has a header of this page size
+abbrev pub AreSized : ℕ → FoundLog → FoundLog → Files → Type 0
+AreSized size one two files =
+    ((one.frames ≡ [] → ⊥) → (log_fields files.log1).page_size ≡ size) × ((two.frames ≡ [] → ⊥) → (log_fields files.log2).page_size ≡ size)
 
 -- nothing is there yet
 abbrev pub IsEmpty : FoundLog → FoundLog → Files → Type 0

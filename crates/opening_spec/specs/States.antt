@@ -12,13 +12,29 @@ use Rattle.page_spec.specs.Header.{fields_of, page_size_in}
 use Rattle.page_spec.specs.PageMap.{PageMap}
 use Rattle.log_spec.specs.LogHeader.{LogFields, header_bytes}
 use Rattle.log_spec.specs.Accept.{Frame, last_size}
+use Rattle.log_spec.specs.Frames.{is_ours}
 use Rattle.crash_spec.specs.Marks.{other_of}
-use Rattle.crash_spec.specs.Opening.{rebased}
+use Rattle.crash_spec.specs.Opening.{Opening, rebased}
 use Rattle.crash_spec.specs.Known.{known_pieces, IsWithoutChance}
-use Rattle.crash_spec.specs.Logs.{IsWhole, IsOnDisk, IsOnlyHeader, AreBehind, IsOursAt, NoneForeign}
+use Rattle.crash_spec.specs.Logs.{IsWhole, IsOnDisk, IsOnlyHeader, AreBehind, IsOursAt, NoneForeign, HaveSize}
 use Rattle.crash_spec.specs.Recovered.{main_page, page_after_frames, overlaid, recovered}
 use Rattle.crash_spec.specs.Store.{named_size, MainIsSure}
-use Rattle.opening_spec.specs.Found.{FoundLog, IsFound, OpeningView, older_in, newer_in, map_in, IsEmpty, size_named, pages_held, frames_in, one_after, two_after}
+use Rattle.opening_spec.specs.Found.{FoundLog, IsFound, OpeningView, older_in, newer_in, map_in, AreSized, IsEmpty, size_named, pages_held, frames_in, one_after, two_after}
+
+-- as the opening began, each log with an accepted frame had a header of the page size
+abbrev pub HadSize : OpeningView → Type 0
+HadSize view = HaveSize view.size (reads view.opening.start)
+
+-- Main is no longer than it was as the opening began, or than the map; and log 2 has a header of ours only where it had one then, or where
+-- the map has this program's versions.
+abbrev pub KeepsTo : Opening → (size : ℕ) → (own : Bool) → PageMap → Files → Type 0
+KeepsTo opening size own map files =
+    (length files.main ≤ max (length (reads opening.start).main) (length map * size))
+    × (is_ours 2 files.log2 ≡ true → (own ≡ true) ⊎ (is_ours 2 (reads opening.start).log2 ≡ true))
+
+-- log 2 may have a header of ours
+abbrev pub MayBeOurs : OpeningView → Type 0
+MayBeOurs view = (view.own ≡ true) ⊎ (is_ours 2 (reads view.opening.start).log2 ≡ true)
 
 -- The logs have these frames, and Main is on the medium but for pages that they hold. The view's map is what is recovered.
 pub record IsOpened (view : OpeningView) (one two : FoundLog) (told : History) : Type 0 where
@@ -27,6 +43,8 @@ pub record IsOpened (view : OpeningView) (one two : FoundLog) (told : History) :
   pub main : MainIsSure view.opening told view.size (pages_held one two)
   pub fits : IsEmpty one two (reads told) ⊎ ((100 ≤ view.size) × (size_named (reads told) one two ≡ view.size))
   pub is : map_in (reads told) one two ≡ view.map
+  pub sizes : HadSize view → AreSized view.size one two (reads told)
+  pub keeps : KeepsTo view.opening view.size view.own view.map (reads told)
 
 -- what a crash may leave now, it may have left at the start, and it met the premise on chance then
 abbrev pub LeftAtStart : OpeningView → History → Files → Type 0
@@ -62,9 +80,16 @@ pub record AreSynced (view : OpeningView) (one two : FoundLog) (told : History) 
   pub whole1 : IsWhole view.opening told Log1
   pub whole2 : IsWhole view.opening told Log2
 
--- what a crash leaves then: it recovers to the map, and no log of it is foreign
+-- no log of an image bars the next opening: none is foreign, and where it was so as the opening began, each with an accepted frame has the
+-- page size
+abbrev pub LeavesLogs : OpeningView → Files → Type 0
+LeavesLogs view image = NoneForeign image × (HadSize view → HaveSize view.size image)
+
+-- what a crash leaves then: it recovers to the map, is no longer than that, and no log of it bars the next opening
 abbrev pub LeavesMap : OpeningView → History → Files → Type 0
-LeavesMap view told image = IsWithoutChance view.opening told image → (recovered image ≡ view.map) × NoneForeign image
+LeavesMap view told image =
+    IsWithoutChance view.opening told image
+    → ((recovered image ≡ view.map) × KeepsTo view.opening view.size view.own view.map image) × LeavesLogs view image
 
 -- What a crash leaves during an opening recovers to the map; or a log that isn't empty wasn't synced yet, and the crash leaves what it
 -- might have left at the start.
@@ -102,6 +127,8 @@ pub record AreWritten (view : OpeningView) (one two : FoundLog) (told : History)
   pub fits : ((reads told).main ≡ []) ⊎ ((100 ≤ view.size) × (page_size_in (fields_of (take 100 (reads told).main)) ≡ view.size))
   pub is : map_in (reads told) one two ≡ view.map
   pub bare : overlaid (reads told).main [] [] ≡ view.map
+  pub sizes : HadSize view → AreSized view.size one two (reads told)
+  pub keeps : KeepsTo view.opening view.size view.own view.map (reads told)
 
 -- a log may get a new header: without its frames the map is the same
 abbrev pub MayReset : OpeningView → File → FoundLog → FoundLog → History → Type 0
@@ -132,6 +159,7 @@ pub record IsFounding (view : OpeningView) (later : PageMap) (header : LogFields
   pub behind : AreBehind (known_pieces view.opening told) Log1 one.salt one.most
   pub ours : All (IsOursAt Log1) (known_pieces view.opening told)
   pub salt : header.salt1 ≡ one.salt
+  pub paged : header.page_size ≡ view.size
   pub log2 : IsFound view.opening told Log2 two
   pub none : two.frames ≡ []
   pub whole2 : IsWhole view.opening told Log2
@@ -140,10 +168,15 @@ pub record IsFounding (view : OpeningView) (later : PageMap) (header : LogFields
   pub lies : last_size pending ≢ 0 → overlaid (reads told).main [] pending ≡ later
   pub sized : last_size pending ≢ 0 → named_size (reads told).main [] pending ≡ view.size
   pub some_size : 100 ≤ view.size
+  pub keeps : KeepsTo view.opening view.size view.own view.map (reads told)
+  pub room : length (reads told).main ≤ max (length (reads view.opening.start).main) (length later * view.size)
 
 -- what a crash leaves then: the map before, or the one that the commit makes
 abbrev pub LeavesEither : OpeningView → PageMap → History → Files → Type 0
-LeavesEither view later told image = IsWithoutChance view.opening told image → ((recovered image ≡ view.map) ⊎ (recovered image ≡ later)) × NoneForeign image
+LeavesEither view later told image =
+    IsWithoutChance view.opening told image
+    → ((recovered image ≡ view.map) × KeepsTo view.opening view.size view.own view.map image
+    ⊎ ((recovered image ≡ later) × KeepsTo view.opening view.size true later image)) × LeavesLogs view image
 
 -- a log's last header is this one: it has the last first salt, and its generation is at least the count of headers that the log got
 pub record IsLastHeader (has : FoundLog) (header : LogFields) : Type 0 where

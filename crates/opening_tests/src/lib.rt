@@ -10,6 +10,8 @@ mod left;
 #[cfg(test)]
 mod openings;
 #[cfg(test)]
+mod recovered;
+#[cfg(test)]
 mod seen;
 #[cfg(test)]
 mod trial;

@@ -1,5 +1,5 @@
 -- Log 1 gets the header behind which the first commit goes; and what stands in Main after it.
-use Rattle.std.proofs.Common.{◌≡◌, ℕ, ◌+◌, ◌%◌, ◌^◌, ◌≤◌, ◌<◌, Bool, true, false, inl, inr, List, [], length, Option, Some, None, refl, sym, ◌∙◌, ap, subst, arith}
+use Rattle.std.proofs.Common.{◌≡◌, ℕ, ◌+◌, ◌*◌, ◌%◌, ◌^◌, ◌≤◌, ◌<◌, max, Bool, true, false, inl, inr, List, [], length, Option, Some, None, refl, sym, ◌∙◌, ap, subst, arith}
 use Rattle.std.specs.Prelude.{IfSome}
 use Rattle.disk_face.specs.declared.disk.File.TheVariants.{Log1, Log2}
 use Rattle.disk_face.specs.declared.step.Step.TheVariants.{Wrote, Synced}
@@ -34,19 +34,24 @@ passes_with opening Leaves P Q F goes old new f passes = record { each_moment = 
     with_files (Some told) f (since, grew, p) = (since, grew, goes (rebased opening.start since) p (subst F (ap reads grew ∙ rebased_reads opening.start since) f))
 
 -- a log's header leaves Main
-main_still : (bytes main : List ℕ) (size : ℕ) (old new : Option History) → new ≡ after (Synced Log1) (after (Wrote (front_piece Log1 bytes)) old) → IfSome old (λ told. ((reads told).main ≡ main) × (100 ≤ size))
-    → IfSome new (λ told. ((reads told).main ≡ main) × (100 ≤ size))
-main_still bytes main size None new step is = subst (λ (told : Option History). IfSome told (λ told. ((reads told).main ≡ main) × (100 ≤ size))) (sym step) tt
-main_still bytes main size (Some told) new step is = subst (λ (told : Option History). IfSome told (λ told. ((reads told).main ≡ main) × (100 ≤ size))) (sym step) is
+main_still : (bytes main : List ℕ) (A B C : Type 0) (old new : Option History) → new ≡ after (Synced Log1) (after (Wrote (front_piece Log1 bytes)) old) → IfSome old (λ told. ((reads told).main ≡ main) × A × B × C)
+    → IfSome new (λ told. ((reads told).main ≡ main) × A × B × C)
+main_still bytes main A B C None new step is = subst (λ (told : Option History). IfSome told (λ told. ((reads told).main ≡ main) × A × B × C)) (sym step) tt
+main_still bytes main A B C (Some told) new step is = subst (λ (told : Option History). IfSome told (λ told. ((reads told).main ≡ main) × A × B × C)) (sym step) is
+
+one_not_two : Log1 ≡ Log2 → ⊥
+one_not_two is = cc
 
 small_rest : (n : ℕ) → n % 2 ^ 32 < 2 ^ 32
 small_rest n = omega arith
 
 begun : (view : OpeningView) (later : PageMap) (main : List ℕ) (header other : LogHeader) (bytes : List ℕ) (one two : FoundLog) (told : History) → log_fields bytes ≡ fields_for header → IsNextHeader Log1 one bytes → two.frames ≡ [] → 100 ≤ view.size
-    → HasReset view Log1 (log_fields bytes) one two None told → (reads told).main ≡ main → IsCommitting view later main (new_pair 1 header other) (next_log one) two [] told
-begun view later main header other bytes one two told fields next none some has main_is =
+    → HasReset view Log1 (log_fields bytes) one two None told → (reads told).main ≡ main → (log_fields bytes).page_size ≡ view.size
+    → length main ≤ max (length (reads view.opening.start).main) (length later * view.size) → IsCommitting view later main (new_pair 1 header other) (next_log one) two [] told
+begun view later main header other bytes one two told fields next none some has main_is paged room =
     let founding : IsFounding view later (fields_for header) [] (next_log one) two told =
-    subst (λ (f : LogFields). IsFounding view later f [] (next_log one) two told) fields (founding_begins view later (log_fields bytes) one two told has none next.salt some) in
+    subst (λ (f : LogFields). IsFounding view later f [] (next_log one) two told) fields (founding_begins view later (log_fields bytes) one two told has none next.salt some paged
+    (subst (λ (xs : List ℕ). length xs ≤ max (length (reads view.opening.start).main) (length later * view.size)) (sym main_is) room)) in
     record {
       founding = founding;
       stands = stands_sealed view.opening (new_pair 1 header other) [] told founding.log1 refl refl refl;
@@ -60,12 +65,13 @@ begins_log true header other bytes old new fields steps view later main one two 
     passes_weaker view.opening (LeavesMap view) (LeavesEither view later) (IsCommitting view later main (new_pair 1 header other) (next_log one) two []) (IsCommitting view later main (new_pair 1 header other) (next_log one) two [])
     (λ told image leaves chance. (inl (leaves chance).0, (leaves chance).1)) (λ told p. p) old new
     (passes_with view.opening (LeavesMap view) (HasReset view Log1 (log_fields bytes) one two None) (IsCommitting view later main (new_pair 1 header other) (next_log one) two [])
-    (λ files. (files.main ≡ main) × (100 ≤ view.size)) (λ told has same. begun view later main header other bytes one two told fields next none same.1 has same.0) old new
-    (main_still bytes main view.size old new steps main_is)
-    (header_passes true view Log1 one two None bytes next old new h steps))
+    (λ files. (files.main ≡ main) × (100 ≤ view.size) × ((log_fields bytes).page_size ≡ view.size) × (length main ≤ max (length (reads view.opening.start).main) (length later * view.size)))
+    (λ told has same. begun view later main header other bytes one two told fields next none same.1 has same.0 same.2 same.3) old new
+    (main_still bytes main (100 ≤ view.size) ((log_fields bytes).page_size ≡ view.size) (length main ≤ max (length (reads view.opening.start).main) (length later * view.size)) old new steps main_is)
+    (header_passes true view Log1 one two None bytes next (λ is. absurd (one_not_two is)) old new h steps))
 begins_log false header other bytes old new fields steps view later main one two h next none main_is =
     passes_weaker view.opening (LeavesMap view) (LeavesEither view later) (λ told. Unit {0}) (λ told. Unit {0}) (λ told image leaves chance. (inl (leaves chance).0, (leaves chance).1)) (λ told p. p) old new
-    (header_passes false view Log1 one two None bytes next old new h steps)
+    (header_passes false view Log1 one two None bytes next (λ is. absurd (one_not_two is)) old new h steps)
 
 -- the commit behind it
 pub founds_pages : (bytes : List ℕ) (pair fresh : PairView) (page : ℕ → List ℕ) (count size : ℕ) (old mid new : Option History) → pair ≡ fresh

@@ -195,9 +195,9 @@ fails_last_at pair mid later_pair page number size bytes old near new frame from
 
 -- the same state, for a view of another length
 pub as_long : (view : OpeningView) (long : ℕ) (one two : FoundLog) (told : History) → AreSynced view one two told
-    → AreSynced (record { opening = view.opening; size = view.size; long = long; map = view.map }) one two told
+    → AreSynced (record { opening = view.opening; size = view.size; long = long; map = view.map; own = view.own }) one two told
 as_long view long one two told s = record {
-  opened = record { log1 = s.opened.log1; log2 = s.opened.log2; main = s.opened.main; fits = s.opened.fits; is = s.opened.is };
+  opened = record { log1 = s.opened.log1; log2 = s.opened.log2; main = s.opened.main; fits = s.opened.fits; is = s.opened.is; sizes = s.opened.sizes; keeps = s.opened.keeps };
   whole1 = s.whole1;
   whole2 = s.whole2;
 }
@@ -224,7 +224,7 @@ module _ (view : OpeningView) (later : PageMap) (main : List ℕ) (pair : PairVi
   seals told b =
       let file = first_file pair first in
       record {
-        synced = as_long (record view { map = later }) (length main) (with_first one frames) two (further (Synced Log1) told)
+        synced = as_long (record view { map = later; own = true }) (length main) (with_first one frames) two (further (Synced Log1) told)
             (founded view later (current_header pair) frames one two told b.founding ends
             (subst (λ (f : File). AreCommitted (content (reads told) f) frames) file (all_committed view.opening pair [] frames told b.stands ends))
             (subst (λ (f : File). end_of frames ≤ length (content (reads told) f)) file b.stands.long));

@@ -85,14 +85,15 @@ pub either_page : (first : Bool) (one two : List Frame) (n : ℕ) (below : List 
 either_page true one two n below none = ap (λ (fs : List Frame). page_after_frames fs n (page_after_frames one n below)) none
 either_page false one two n below none = ap (λ (fs : List Frame). page_after_frames one n (page_after_frames fs n below)) none
 
-pub held_page : (view : OpeningView) (one two : FoundLog) (page : ℕ → List ℕ) (n : ℕ) (bytes : List ℕ) (told : Option History) → two.frames ≡ [] → HoldFrom page 1 one.frames → 1 ≤ n → n ≤ length one.frames → bytes ≡ page n
-    → IfSome told (λ told. Contains (pages_held one two) n × (bytes ≡ page_in view.size (reads told) one two n))
-held_page view one two page n bytes None none hold from within is = tt
-held_page view one two page n bytes (Some told) none hold from within is =
+pub held_page : (view : OpeningView) (one two : FoundLog) (page : ℕ → List ℕ) (n : ℕ) (bytes : List ℕ) (told : Option History) → two.frames ≡ [] → HoldFrom page 1 one.frames → 1 ≤ n → n ≤ length one.frames → bytes ≡ page n → n ≤ length view.map
+    → IfSome told (λ told. Contains (pages_held one two) n × (bytes ≡ page_in view.size (reads told) one two n) × (n ≤ length view.map))
+held_page view one two page n bytes None none hold from within is few = tt
+held_page view one two page n bytes (Some told) none hold from within is few =
     let below : List ℕ = main_page view.size (reads told).main n in
     let has = hold_page page 1 one.frames n below hold from (omega arith) in (
       Contains-append_left (page_numbers one.frames) (page_numbers two.frames) n has.1,
       is ∙ sym has.0 ∙ sym (either_page (nat_lt (log_fields (reads told).log1).generation (log_fields (reads told).log2).generation) one.frames two.frames n below none),
+      few,
     )
 
 -- behind the first page they are zero

@@ -1,12 +1,12 @@
 mod Placing
 mod Laying
 mod Resets
-mod Page1
+pub mod Page1
 mod Missing
 mod FirstRead
 mod PlacesHold
 mod LogsRead
-mod Page1Read
+pub mod Page1Read
 mod Held
 mod SizesRead
 mod Enough
@@ -16,6 +16,7 @@ mod OldView
 mod Judged
 pub mod SeenPages
 pub mod First
+pub mod RecoveredPages
 mod FirstPages
 mod Committing
 mod Beginnings

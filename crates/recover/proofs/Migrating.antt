@@ -199,7 +199,7 @@ laid_further view one two page count told hold single none some long d = record 
     first_within (suc n) from within = let more : suc n * view.size ≡ view.size + n * view.size = grind arith in let one : (1 + 1 - 1) * view.size ≡ view.size = grind arith in omega arith
 
 -- The commit was made, and page 1 was written.
-module _ (view : OpeningView) (one two : FoundLog) (bytes first : List ℕ) (size : ℕ) (sized : length first ≡ view.size) (big : 100 ≤ view.size) (some : size ≢ 0) (next : IsNextHeader Log1 one bytes) (none : two.frames ≡ []) where
+module _ (view : OpeningView) (one two : FoundLog) (bytes first : List ℕ) (size : ℕ) (sized : length first ≡ view.size) (big : 100 ≤ view.size) (paged : (log_fields bytes).page_size ≡ view.size) (some : size ≢ 0) (next : IsNextHeader Log1 one bytes) (none : two.frames ≡ []) where
   abbrev later : PageMap
   later = migrated view.map
 
@@ -240,22 +240,34 @@ module _ (view : OpeningView) (one two : FoundLog) (bytes first : List ℕ) (siz
       (subst (λ (bs : List ℕ). MakesMap (reads told).main view.size later (first_then_zeros bs) 1 (length view.map)) (sym t.2)
       (migrates (reads told).main view.map view.size big on.0 on.1 (some_map told t)))
 
+  -- Main is no longer than at first or than the map
+  room_now : (told : History) → Told (Some told) → length (reads told).main ≤ max (length (reads view.opening.start).main) (length later * view.size)
+  room_now told t =
+      let on = on_main told t in
+      subst (λ (n : ℕ). length (reads told).main ≤ max (length (reads view.opening.start).main) (n * view.size)) (sym (as_long_as (reads told).main view.map view.size big on.0 on.1 (some_map told t)))
+      (by t.0)
+    where
+      by : Since view.opening.start (IsResetting view Log1 one two None) (Some told) → length (reads told).main ≤ max (length (reads view.opening.start).main) (length view.map * view.size)
+      by (since, grew, r) =
+          let same : reads (rebased view.opening.start since) ≡ reads told = sym (ap reads grew ∙ rebased_reads view.opening.start since) in
+          subst (λ (files : Files). length files.main ≤ max (length (reads view.opening.start).main) (length view.map * view.size)) same r.written.keeps.0
+
   pub migrates_not : (old mid : Option History) → Told old → FailsToFound bytes (first_then_zeros first) 1 size old mid → Passes view.opening (LeavesEither view later) (λ told. Unit {0}) old mid
-  migrates_not (Some told) mid t fails = fails view later (reads told).main one two (makes told t) t.0 next none (refl, big)
+  migrates_not (Some told) mid t fails = fails view later (reads told).main one two (makes told t) t.0 next none (refl, big, paged, room_now told t)
   migrates_not None None t fails = record { each_moment = tt; holds = tt }
   migrates_not None (Some mid) t fails =
-      absurd (fails (record { opening = view.opening; size = page_size_in (fields_of first); long = 0; map = [] }) (over_one first [] size) [] one two (makes_one [] first size) tt next none tt).each_moment
+      absurd (fails (record { opening = view.opening; size = page_size_in (fields_of first); long = 0; map = []; own = true }) (over_one first [] size) [] one two (makes_one [] first size) tt next none tt).each_moment
 
   -- then its mid state isn't told either
   untold : (mid : Option History) → FoundsPages bytes (first_then_zeros first) 1 size None mid → mid ≡ None
   untold None made = refl
   untold (Some mid) made =
-      absurd (made.3 (record { opening = view.opening; size = page_size_in (fields_of first); long = 0; map = [] }) (over_one first [] size) [] one two (makes_one [] first size) tt next none tt).each_moment
+      absurd (made.3 (record { opening = view.opening; size = page_size_in (fields_of first); long = 0; map = []; own = true }) (over_one first [] size) [] one two (makes_one [] first size) tt next none tt).each_moment
 
   laid_none : (ok : Bool) (new : Option History) (frames : List Frame) → HoldFrom (first_then_zeros first) 1 frames → length frames ≡ 1 → LaysFirst ok first 1 None new → new ≡ None
   laid_none ok None frames hold long laying = refl
   laid_none ok (Some new) frames hold long laying =
-      absurd (laying (record { opening = view.opening; size = length first; long = 0; map = [] }) (record { frames = frames; salt = 0; most = 0 }) (record { frames = []; salt = 0; most = 0 }) tt refl tt refl hold long).each_moment
+      absurd (laying (record { opening = view.opening; size = length first; long = 0; map = [] ∷ []; own = true }) (record { frames = frames; salt = 0; most = 0 }) (record { frames = []; salt = 0; most = 0 }) tt refl tt refl hold long (omega arith)).each_moment
 
   nothing_told : (P : History → Type 0) (new : Option History) → new ≡ None → Passes view.opening (LeavesEither view later) P None new
   nothing_told P new is = subst (λ (told : Option History). Passes view.opening (LeavesEither view later) P None told) (sym is) (record { each_moment = tt; holds = tt })
@@ -268,12 +280,13 @@ module _ (view : OpeningView) (one two : FoundLog) (bytes first : List ℕ) (siz
     one' = with_first (next_log one) made.0
 
     committed : Passes view.opening (LeavesEither view later) (HasFirstCommit view later main (next_log one) two made.0) (Some told) mid
-    committed = made.3 view later main one two (makes told t) t.0 next none (refl, big)
+    committed = made.3 view later main one two (makes told t) t.0 next none (refl, big, paged, room_now told t)
 
     lays : (ok : Bool) → LaysFirst ok first 1 mid new → Passes view.opening (LeavesMap (later_view view later main)) (ByAnswer ok (IsLaidDown (later_view view later main) one' two (1 + 1)) (AreSynced (later_view view later main) one' two)) mid new
     lays ok laying =
         laying (later_view view later main) one' two (synced_then view later main (next_log one) two made.0 (Some told) mid new committed) sized
         (long_then view later main (next_log one) two made.0 (Some told) mid new committed) none made.1 made.2
+        (let on = on_main told t in let has = some_map told t in let same = as_long_as main view.map view.size big on.0 on.1 has in omega (arith, same, has))
 
     founded : LaysFirst true first 1 mid new → Passes view.opening (LeavesEither view later) (HasMigrated view (next_log one) two) (Some told) new
     founded laying =

@@ -84,12 +84,12 @@ held_by_either false one two number = (λ c. Contains-append_right (page_numbers
 
 -- a page that no log holds needs no write
 pub place_passed : (view : OpeningView) (one two : FoundLog) (number room : ℕ) (old : Option History) → room ≡ view.size → 1 ≤ number
-    → IfSome old (λ told. FitsPlace (reads told) room number InMain) → IfSome old (λ told. IsPlaceOf view one two (reads told) number InMain) → Since view.opening.start (IsWriting view one two number) old
+    → IfSome old (λ told. FitsPlace (reads told) room number InMain) → IfSome old (λ told. IsPlaceOf view one two (reads told) number InMain × (number ≤ length view.map)) → Since view.opening.start (IsWriting view one two number) old
     → Passes view.opening (LeavesMap view) (IsWriting view one two (number + 1)) old old
 place_passed view one two number room old sized from fits is h =
     passes_still view.opening (LeavesMap view) (λ told. IsWriting view one two (number + 1) told) (λ told w. synced_images view one two told w.synced) old (more old fits is h)
   where
-    more : (old : Option History) → IfSome old (λ told. FitsPlace (reads told) room number InMain) → IfSome old (λ told. IsPlaceOf view one two (reads told) number InMain) → Since view.opening.start (IsWriting view one two number) old
+    more : (old : Option History) → IfSome old (λ told. FitsPlace (reads told) room number InMain) → IfSome old (λ told. IsPlaceOf view one two (reads told) number InMain × (number ≤ length view.map)) → Since view.opening.start (IsWriting view one two number) old
         → Since view.opening.start (IsWriting view one two (number + 1)) old
     more None fits is h = tt
     more (Some told) fits is (since, grew, w) =
@@ -102,22 +102,22 @@ place_passed view one two number room old sized from fits is h =
           grew,
           record {
             synced = w.synced;
-            laid = page_passed view.size (reads now).main (older_in (reads now) one two) (newer_in (reads now) one two) number (λ c. is (either.0 c)) (λ c. is (either.1 c)) w.laid;
+            laid = page_passed view.size (reads now).main (older_in (reads now) one two) (newer_in (reads now) one two) number (λ c. is.0 (either.0 c)) (λ c. is.0 (either.1 c)) w.laid;
             long = long_passed view.size view.long number (length (reads now).main) from (omega arith) w.long;
           },
         )
 
 -- what was read is the page
 pub place_bytes : (view : OpeningView) (one two : FoundLog) (number : ℕ) (file : File) (at : ℕ) (bytes : List ℕ) (old mid : Option History) → mid ≡ old → length bytes ≡ view.size
-    → IsRead old file at bytes → IfSome old (λ told. IsPlaceOf view one two (reads told) number (InLog file at))
-    → IfSome mid (λ told. Contains (pages_held one two) number × (bytes ≡ page_in view.size (reads told) one two number))
+    → IsRead old file at bytes → IfSome old (λ told. IsPlaceOf view one two (reads told) number (InLog file at) × (number ≤ length view.map))
+    → IfSome mid (λ told. Contains (pages_held one two) number × (bytes ≡ page_in view.size (reads told) one two number) × (number ≤ length view.map))
 place_bytes view one two number file at bytes old mid still sized read is =
-    subst (λ told. IfSome told (λ told. Contains (pages_held one two) number × (bytes ≡ page_in view.size (reads told) one two number))) (sym still) (go old read is)
+    subst (λ told. IfSome told (λ told. Contains (pages_held one two) number × (bytes ≡ page_in view.size (reads told) one two number) × (number ≤ length view.map))) (sym still) (go old read is)
   where
-    go : (old : Option History) → IsRead old file at bytes → IfSome old (λ told. IsPlaceOf view one two (reads told) number (InLog file at))
-        → IfSome old (λ told. Contains (pages_held one two) number × (bytes ≡ page_in view.size (reads told) one two number))
+    go : (old : Option History) → IsRead old file at bytes → IfSome old (λ told. IsPlaceOf view one two (reads told) number (InLog file at) × (number ≤ length view.map))
+        → IfSome old (λ told. Contains (pages_held one two) number × (bytes ≡ page_in view.size (reads told) one two number) × (number ≤ length view.map))
     go None read is = tt
-    go (Some told) read is = (is.1, read ∙ ap (λ (n : ℕ). take n (drop at (content (reads told) file))) sized ∙ is.2)
+    go (Some told) read is = (is.0.1, read ∙ ap (λ (n : ℕ). take n (drop at (content (reads told) file))) sized ∙ is.0.2, is.1)
 
 -- and Main reaches to the next one
 pub wrote_reaches : (number size : ℕ) (bytes : List ℕ) (old mid new : Option History) → mid ≡ old → 1 ≤ number → length bytes ≡ size → IsInside old Main ((number - 1) * size) 0
@@ -169,17 +169,17 @@ place_same view one two number (InLog file at) old new is1 is2 (log, held, bytes
       ∙ same_order view one two number old new is1 is2 (main_page view.size new.main number),
 )
 
-pub place_still : (view : OpeningView) (one two : FoundLog) (number : ℕ) (place : Place) (old new : Option History) → OnlyMain old new → IfSome old (λ told. IsPlaceOf view one two (reads told) number place)
-    → IfSome new (λ told. IsPlaceOf view one two (reads told) number place)
+pub place_still : (view : OpeningView) (one two : FoundLog) (number : ℕ) (place : Place) (old new : Option History) → OnlyMain old new → IfSome old (λ told. IsPlaceOf view one two (reads told) number place × (number ≤ length view.map))
+    → IfSome new (λ told. IsPlaceOf view one two (reads told) number place × (number ≤ length view.map))
 place_still view one two number place None None only is = tt
 place_still view one two number place None (Some new) only is = absurd only
 place_still view one two number place (Some old) None only is = absurd only
-place_still view one two number place (Some old) (Some new) (is1, is2, longer) is = place_same view one two number place (reads old) (reads new) is1 is2 is
+place_still view one two number place (Some old) (Some new) (is1, is2, longer) is = (place_same view one two number place (reads old) (reads new) is1 is2 is.0, is.1)
 
-pub place_one : (view : OpeningView) (one two : FoundLog) (places : List Place) (k : ℕ) (none : Place) (told : Option History) → k < length places → IfSome told (λ told. ArePlacesOf view one two (reads told) places)
-    → IfSome told (λ told. IsPlaceOf view one two (reads told) (k + 1) (slice_index_or places k none))
+pub place_one : (view : OpeningView) (one two : FoundLog) (places : List Place) (k : ℕ) (none : Place) (told : Option History) → k < length places → IfSome told (λ told. ArePlacesOf view one two (reads told) places × (length places ≤ length view.map))
+    → IfSome told (λ told. IsPlaceOf view one two (reads told) (k + 1) (slice_index_or places k none) × (k + 1 ≤ length view.map))
 place_one view one two places k none None less fit = tt
-place_one view one two places k none (Some told) less fit = fit k none less
+place_one view one two places k none (Some told) less fit = (fit.0 k none less, omega (arith, fit.1))
 
 -- the first page
 pub first_page : (view : OpeningView) (one two : FoundLog) (old : Option History) → Since view.opening.start (IsWriting view one two 1) old
@@ -196,9 +196,9 @@ reaches_whole number size None fits = tt
 reaches_whole number size (Some told) fits = omega arith
 
 -- what was seen of the places
-pub seen_places : (view : OpeningView) (one two : FoundLog) (places : List Place) (told : Option History) → IfSome told (λ told. AreSeen view one two places (reads told)) → IfSome told (λ told. ArePlacesOf view one two (reads told) places)
+pub seen_places : (view : OpeningView) (one two : FoundLog) (places : List Place) (told : Option History) → IfSome told (λ told. AreSeen view one two places (reads told)) → IfSome told (λ told. ArePlacesOf view one two (reads told) places × (length places ≤ length view.map))
 seen_places view one two places None seen = tt
-seen_places view one two places (Some told) seen = seen.standing
+seen_places view one two places (Some told) seen = (seen.standing, omega (arith, seen.count))
 
 pub seen_long : (view : OpeningView) (one two : FoundLog) (places : List Place) (told : Option History) → IfSome told (λ told. AreSeen view one two places (reads told)) → IfSome told (λ told. length (reads told).main ≡ view.long)
 seen_long view one two places None seen = tt

@@ -24,7 +24,7 @@ use Rattle.wal_frames.specs.declared.header.Front.TheVariants.{Ours}
 use Rattle.log_pair.specs.Pair.{PairView, new_pair}
 use Rattle.log_pair.proofs.Standing.{stands_sealed}
 use Rattle.opening_spec.specs.Found.{OpeningView, FoundLog, IsFirst, IsNextHeader, found_log, next_log}
-use Rattle.opening_spec.specs.States.{IsSyncing, AreSynced, IsResetting, IsSettled, LeavesMap, LeavesOpening, LeavesEither, header1_of, header2_of}
+use Rattle.opening_spec.specs.States.{IsSyncing, AreSynced, IsResetting, IsSettled, MayBeOurs, LeavesMap, LeavesOpening, LeavesEither, header1_of, header2_of}
 use Rattle.opening_spec.proofs.Settling.{bare_passes}
 use Rattle.opening_spec.proofs.Syncing.{sync_still}
 use Rattle.recover.specs.Headers.{generation_in, first_of}
@@ -68,6 +68,31 @@ as_store view later main header older told s = record {
     fits = s.written.fits;
     is = s.written.is;
     bare = s.written.bare;
+    sizes = s.written.sizes;
+    keeps = (s.written.keeps.0, λ is. inl refl);
+  };
+  log1 = record { on = s.log1.on; sure = s.log1.sure };
+  log2 = record { on = s.log2.on; sure = s.log2.sure };
+}
+
+-- a store of the same map
+as_own : (view : OpeningView) (header older : LogFields) (told : History) → IsSettled view header older told → IsSettled (store_view view view.map) header older told
+as_own view header older told s = record {
+  one = s.one;
+  two = s.two;
+  last1 = s.last1;
+  last2 = s.last2;
+  written = record {
+    log1 = s.written.log1;
+    log2 = s.written.log2;
+    whole1 = s.written.whole1;
+    whole2 = s.written.whole2;
+    main = s.written.main;
+    fits = s.written.fits;
+    is = s.written.is;
+    bare = s.written.bare;
+    sizes = s.written.sizes;
+    keeps = (s.written.keeps.0, λ is. inl refl);
   };
   log1 = record { on = s.log1.on; sure = s.log1.sure };
   log2 = record { on = s.log2.on; sure = s.log2.sure };
@@ -76,7 +101,7 @@ as_store view later main header older told s = record {
 -- both logs get their new headers, log 2 first
 abbrev pub ResetsBoth : Bool → (here there : List ℕ) → Option History → Option History → Type 0
 ResetsBoth ok here there old new =
-    (view : OpeningView) (one two : FoundLog) → Since view.opening.start (IsResetting view Log2 one two None) old
+    (view : OpeningView) (one two : FoundLog) → Since view.opening.start (IsResetting view Log2 one two None) old → MayBeOurs view
     → IsNextHeader Log2 (found_log Log2 one two) here → IsNextHeader (other_of Log2) (found_log (other_of Log2) one two) there
     → Passes view.opening (LeavesMap view) (WhereDone ok (IsSettled view (header1_of Log2 (log_fields here) (log_fields there)) (header2_of Log2 (log_fields here) (log_fields there)))) old new
 
@@ -91,7 +116,7 @@ resets_later ok view later main here there one two old new resets h next2 next1 
     passes_weaker view.opening (LeavesMap (later_view view later main)) (LeavesEither view later) (WhereDone ok (IsSettled (later_view view later main) (log_fields there) (log_fields here)))
     (WhereDone ok (IsSettled (store_view view later) (log_fields there) (log_fields here)))
     (λ told image leaves chance. (inr (leaves chance).0, (leaves chance).1)) (λ told s. state ok told s) old new
-    (resets (later_view view later main) (with_first one has.0) two has.1 next2 (next_with one has.0 there next1))
+    (resets (later_view view later main) (with_first one has.0) two has.1 (inl refl) next2 (next_with one has.0 there next1))
   where
     state : (ok : Bool) (told : History) → WhereDone ok (IsSettled (later_view view later main) (log_fields there) (log_fields here)) told → WhereDone ok (IsSettled (store_view view later) (log_fields there) (log_fields here)) told
     state true told s = as_store view later main (log_fields there) (log_fields here) told s
@@ -149,7 +174,7 @@ pub same_ready : (view : OpeningView) (one two : LogHeader) (pair : PairView) (h
     → Passes view.opening (LeavesOpening view) (IsSettled view header older) old new → Passes view.opening (LeavesOpening view) (IsReady view view.map pair) old new
 same_ready view one two pair header older old new is fields1 fields2 some passes =
     passes_weaker view.opening (LeavesOpening view) (LeavesOpening view) (IsSettled view header older) (IsReady view view.map pair) (λ told image leaves. leaves)
-    (λ told s. ready view view.map one two pair header older told is fields1 fields2 some s) old new passes
+    (λ told s. ready view view.map one two pair header older told is fields1 fields2 some (as_own view header older told s)) old new passes
 
 -- the salt that log 1 has after its first header
 pub salt_then : (has : FoundLog) (header : LogHeader) (bytes : List ℕ) → IsNextHeader Log1 has bytes → log_fields bytes ≡ fields_for header → (next_log has).salt ≡ header.salt1 % 2 ^ 32

@@ -4,6 +4,7 @@ use Rattle.recover.specs.Headers.{next_even}
 use Rattle.recover.specs.Seeing.{next_odd}
 use Rattle.std.proofs.Common.{arith, ◌≤◌, ◌≡◌, ◌⊎◌, inl, inr, ℕ, ◌+◌, ◌%◌, ◌^◌, ◌<◌, Bool, true, false, List, Option, refl, sym, ◌∙◌, ap, subst}
 use Rattle.disk_face.specs.declared.disk.File.{File}
+use Rattle.disk_face.specs.declared.disk.File.TheVariants.{Log2}
 use Rattle.disk_face.specs.Steps.{History}
 use Rattle.log_spec.specs.LogHeader.{LogFields, log_fields, is_generation, last_generation, IsOurs}
 use Rattle.log_spec.specs.Written.{IsHeaderOf}
@@ -11,7 +12,7 @@ use Rattle.crash_spec.specs.Marks.{IsLog, number_of}
 use Rattle.crash_spec.specs.Opening.{Since}
 use Rattle.crash_spec.specs.Passes.{Passes, WhereDone}
 use Rattle.opening_spec.specs.Found.{OpeningView, FoundLog, IsNextHeader, found_log}
-use Rattle.opening_spec.specs.States.{IsResetting, HasReset, LeavesMap}
+use Rattle.opening_spec.specs.States.{IsResetting, HasReset, MayBeOurs, LeavesMap}
 use Rattle.opening_spec.proofs.Resetting.{header_done, header_unsynced, header_refused}
 use Rattle.log_pair.specs.Switch.{WritesAndSyncs, front_piece}
 use Rattle.wal_frames.specs.Found.{log_file}
@@ -21,12 +22,12 @@ use Rattle.log_pair.specs.Header.{IsSigned}
 use Rattle.log_pair.specs.declared.header.NewHeader.{NewHeader}
 use Rattle.page_spec.specs.Header.{is_page_size}
 
-pub header_passes : (ok : Bool) (view : OpeningView) (log : File) (one two : FoundLog) (beside : Option LogFields) (bytes : List ℕ) → IsNextHeader log (found_log log one two) bytes
+pub header_passes : (ok : Bool) (view : OpeningView) (log : File) (one two : FoundLog) (beside : Option LogFields) (bytes : List ℕ) → IsNextHeader log (found_log log one two) bytes → (log ≡ Log2 → MayBeOurs view)
     → (old new : Option History) → Since view.opening.start (IsResetting view log one two beside) old → WritesAndSyncs ok (front_piece log bytes) old new
     → Passes view.opening (LeavesMap view) (WhereDone ok (HasReset view log (log_fields bytes) one two beside)) old new
-header_passes true view log one two beside bytes next old new h done = header_done view log one two beside bytes next old _ new h refl done
-header_passes false view log one two beside bytes next old new h (inl refused) = header_refused view log one two beside bytes next old new h refused
-header_passes false view log one two beside bytes next old new h (inr wrote) = header_unsynced view log one two beside bytes next old _ new h refl wrote
+header_passes true view log one two beside bytes next owns old new h done = header_done view log one two beside bytes next owns old _ new h refl done
+header_passes false view log one two beside bytes next owns old new h (inl refused) = header_refused view log one two beside bytes next owns old new h refused
+header_passes false view log one two beside bytes next owns old new h (inr wrote) = header_unsynced view log one two beside bytes next owns old _ new h refl wrote
 
 -- a header that was signed is a next one
 pub next_is : (log : ℕ) (has : FoundLog) (header : LogFields) (bytes : List ℕ) (last : ℕ) → (log ≡ 1) ⊎ (log ≡ 2) → IsHeaderOf log header bytes

@@ -7,7 +7,7 @@ use Rattle.disk_face.specs.declared.disk.File.TheVariants.{Main}
 use Rattle.disk_face.specs.Files.{Files}
 use Rattle.disk_face.specs.Steps.{History, reads}
 use Rattle.disk_face.specs.Told.{IsInside}
-use Rattle.page_spec.specs.Header.{fields_of, pages_in, is_page_size}
+use Rattle.page_spec.specs.Header.{fields_of, pages_in, is_page_size, page_sizes}
 use Rattle.page_spec.specs.PageMap.{PageMap, page_at}
 use Rattle.log_spec.specs.LogHeader.{log_fields, is_signed, foreign_at, is_generation}
 use Rattle.log_spec.specs.Accept.{Frame, page_numbers}
@@ -98,6 +98,35 @@ legal_size n is = elim (one_of (nat_eq n 512) _ is) [
               | inl at ↦ subst Fits (same_size n 32768 at) (omega arith, omega arith)
               | inr is ↦ elim (one_of (nat_eq n 65536) _ is) [
                 | inl at ↦ subst Fits (same_size n 65536 at) (omega arith, omega arith)
+                | inr is ↦ cc
+              ]
+            ]
+          ]
+        ]
+      ]
+    ]
+  ]
+]
+
+-- it is one of the list
+pub is_legal : (n : ℕ) → is_page_size n ≡ true → Contains page_sizes n
+unfolding is_page_size
+is_legal n is = elim (one_of (nat_eq n 512) _ is) [
+  | inl at ↦ (0, omega arith, same_size n 512 at)
+  | inr is ↦ elim (one_of (nat_eq n 1024) _ is) [
+    | inl at ↦ (1, omega arith, same_size n 1024 at)
+    | inr is ↦ elim (one_of (nat_eq n 2048) _ is) [
+      | inl at ↦ (2, omega arith, same_size n 2048 at)
+      | inr is ↦ elim (one_of (nat_eq n 4096) _ is) [
+        | inl at ↦ (3, omega arith, same_size n 4096 at)
+        | inr is ↦ elim (one_of (nat_eq n 8192) _ is) [
+          | inl at ↦ (4, omega arith, same_size n 8192 at)
+          | inr is ↦ elim (one_of (nat_eq n 16384) _ is) [
+            | inl at ↦ (5, omega arith, same_size n 16384 at)
+            | inr is ↦ elim (one_of (nat_eq n 32768) _ is) [
+              | inl at ↦ (6, omega arith, same_size n 32768 at)
+              | inr is ↦ elim (one_of (nat_eq n 65536) _ is) [
+                | inl at ↦ (7, omega arith, same_size n 65536 at)
                 | inr is ↦ cc
               ]
             ]
@@ -221,7 +250,7 @@ all_in_main : (told : History) (new_size : ℕ) (seen : SeenView) → IsSeen new
 all_in_main told new_size seen s none = by (length seen.places) refl
   where
     in_main : (number : ℕ) (place : Place) → FitsPlace (reads told) seen.page_size number place
-        → IsPlaceOf (record { opening = record { start = told; before = []; pieces = [] }; size = seen.page_size; long = 0; map = [] }) (one_in (reads told)) (two_in (reads told)) (reads told) number place
+        → IsPlaceOf (record { opening = record { start = told; before = []; pieces = [] }; size = seen.page_size; long = 0; map = []; own = true }) (one_in (reads told)) (two_in (reads told)) (reads told) number place
         → number * seen.page_size ≤ length (reads told).main
     in_main number InMain fits is = fits
     in_main number (InLog file at) fits is =
@@ -239,7 +268,7 @@ all_in_main told new_size seen s none = by (length seen.places) refl
         let all : k + 1 ≡ length seen.places = omega (arith, is) in
         subst (λ (n : ℕ). n * seen.page_size ≤ length (reads told).main) all
         (in_main (k + 1) (slice_index_or seen.places k InMain) (s.fits k InMain less)
-        (s.standing (record { opening = record { start = told; before = []; pieces = [] }; size = seen.page_size; long = 0; map = [] }) refl k InMain less))
+        (s.standing (record { opening = record { start = told; before = []; pieces = [] }; size = seen.page_size; long = 0; map = []; own = true }) refl k InMain less))
 
 pub whole_told : (new_size size count : ℕ) (seen : SeenView) (told : Option History) → size ≡ seen.page_size → count ≡ length seen.places → IfSome told (λ told. IsSeen new_size (reads told) seen) → seen.some_frames ≡ false
     → IsInside told Main (count * size) 0
@@ -266,7 +295,7 @@ abbrev pub OursSays : (front1 front2 : Front) → List Place → Bool → (size 
 OursSays front1 front2 places some_frames size result old new =
     (view : OpeningView) (has1 has2 : FoundLog) → Since view.opening.start (IsSyncing view has1 has2 []) old → size ≡ view.size
     → (some_frames ≡ false → (has1.frames ≡ []) × (has2.frames ≡ [])) → (some_frames ≡ true → IfSome old (λ told. AreSeen view has1 has2 places (reads told)))
-    → IfSome old (λ told. IsFirst (reads told) (first_of front1 front2) has1 has2) → 1 ≤ length view.map
+    → IfSome old (λ told. IsFirst (reads told) (first_of front1 front2) has1 has2) → 1 ≤ length view.map → view.own ≡ true
     → has1.salt ≡ last_salt front1 % 2 ^ 32 → has2.salt ≡ last_salt front2 % 2 ^ 32 → has1.most ≡ 0 → has2.most ≡ 0
     → Passes view.opening (LeavesOpening view) (ReadyWith result view view.map) old new
 
@@ -295,9 +324,9 @@ module _ (kind : StoreKind) (new_size size : ℕ) (seen : SeenView) (whole : IsW
       by : (old : Option History) → IfSome old (λ told. IsSeen new_size (reads told) seen) → Since view.opening.start (IsSyncing view one two []) old → IfSome old (λ told. IsViewOf seen (reads told) view one two)
           → NewSays kind seen.one seen.two size result old new → Settled view (new_pages kind view.size) old new
       by None s h of says =
-          let other : OpeningView = record { opening = view.opening; size = size; long = view.long; map = view.map } in
+          let other : OpeningView = record { opening = view.opening; size = size; long = view.long; map = view.map; own = true } in
           untold other view (LeavesSettling other (new_pages kind size)) (LeavesSettling view (new_pages kind view.size)) (ReadyWith result other (new_pages kind size)) (ReadyWith result view (new_pages kind view.size)) new
-          (says (record { opening = view.opening; size = size; long = view.long; map = view.map }) (record { frames = []; salt = last_salt seen.one % 2 ^ 32; most = 0 }) (record { frames = []; salt = last_salt seen.two % 2 ^ 32; most = 0 })
+          (says (record { opening = view.opening; size = size; long = view.long; map = view.map; own = true }) (record { frames = []; salt = last_salt seen.one % 2 ^ 32; most = 0 }) (record { frames = []; salt = last_salt seen.two % 2 ^ 32; most = 0 })
           tt refl refl refl tt refl refl refl refl)
       by (Some told) s h of says =
           let is = new_is new_size (reads told) seen s fresh in
@@ -326,10 +355,10 @@ module _ (kind : StoreKind) (new_size size : ℕ) (seen : SeenView) (whole : IsW
       by : (old : Option History) → IfSome old (λ told. IsSeen new_size (reads told) seen) → Since view.opening.start (IsSyncing view one two []) old → IfSome old (λ told. IsViewOf seen (reads told) view one two)
           → OursSays seen.one seen.two seen.places seen.some_frames size result old new → Passes view.opening (LeavesOpening view) (ReadyWith result view view.map) old new
       by None s h of says =
-          let other : OpeningView = record { opening = view.opening; size = size; long = view.long; map = [] ∷ [] } in
+          let other : OpeningView = record { opening = view.opening; size = size; long = view.long; map = [] ∷ []; own = true } in
           untold other view (LeavesOpening other) (LeavesOpening view) (ReadyWith result other ([] ∷ [])) (ReadyWith result view view.map) new
-          (says (record { opening = view.opening; size = size; long = view.long; map = [] ∷ [] }) (record { frames = []; salt = last_salt seen.one % 2 ^ 32; most = 0 }) (record { frames = []; salt = last_salt seen.two % 2 ^ 32; most = 0 })
-          tt refl (λ none. (refl, refl)) (λ some. tt) tt (omega arith) refl refl refl refl)
+          (says (record { opening = view.opening; size = size; long = view.long; map = [] ∷ []; own = true }) (record { frames = []; salt = last_salt seen.one % 2 ^ 32; most = 0 }) (record { frames = []; salt = last_salt seen.two % 2 ^ 32; most = 0 })
+          tt refl (λ none. (refl, refl)) (λ some. tt) tt (omega arith) refl refl refl refl refl)
       by (Some told) s h of says =
           let has = seen_now told there named s view one two h of in
           says view one two h (sized ∙ sym of.size)
@@ -337,7 +366,7 @@ module _ (kind : StoreKind) (new_size size : ℕ) (seen : SeenView) (whole : IsW
           (λ some. has)
           (subst (λ (has : FoundLog). IsFirst (reads told) (first_of seen.one seen.two) has two) (sym of.has_one)
           (subst (λ (has : FoundLog). IsFirst (reads told) (first_of seen.one seen.two) (one_in (reads told)) has) (sym of.has_two) (is_first new_size (reads told) seen s whole.two)))
-          has.some
+          has.some (of.own there ours)
           (ap (λ (has : FoundLog). has.salt) of.has_one ∙ salt1 new_size (reads told) seen s) (ap (λ (has : FoundLog). has.salt) of.has_two ∙ salt2 new_size (reads told) seen s)
           (ap (λ (has : FoundLog). has.most) of.has_one) (ap (λ (has : FoundLog). has.most) of.has_two)
 
@@ -355,9 +384,9 @@ module _ (kind : StoreKind) (new_size size : ℕ) (seen : SeenView) (whole : IsW
       by : (old : Option History) → IfSome old (λ told. IsSeen new_size (reads told) seen) → Since view.opening.start (IsSyncing view one two []) old → IfSome old (λ told. IsViewOf seen (reads told) view one two)
           → MigratedSays seen.one seen.two seen.places seen.some_frames size result old new → Settled view (migrated view.map) old new
       by None s h of says =
-          let other : OpeningView = record { opening = view.opening; size = size; long = view.long; map = [] ∷ [] } in
+          let other : OpeningView = record { opening = view.opening; size = size; long = view.long; map = [] ∷ []; own = true } in
           untold other view (LeavesSettling other (migrated ([] ∷ []))) (LeavesSettling view (migrated view.map)) (ReadyWith result other (migrated ([] ∷ []))) (ReadyWith result view (migrated view.map)) new
-          (says (record { opening = view.opening; size = size; long = view.long; map = [] ∷ [] }) (record { frames = []; salt = last_salt seen.one % 2 ^ 32; most = 0 }) (record { frames = []; salt = last_salt seen.two % 2 ^ 32; most = 0 })
+          (says (record { opening = view.opening; size = size; long = view.long; map = [] ∷ []; own = true }) (record { frames = []; salt = last_salt seen.one % 2 ^ 32; most = 0 }) (record { frames = []; salt = last_salt seen.two % 2 ^ 32; most = 0 })
           tt refl refl (λ none. refl) tt (omega arith) refl refl refl refl)
       by (Some told) s h of says =
           let has = seen_now told there named s view one two h of in

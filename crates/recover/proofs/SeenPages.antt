@@ -47,10 +47,10 @@ whole_page files size number view (InLog file at) sized some (is_log, held, is) 
     ∙ length-take-le size (drop at (content files file)) (omega (arith, length-drop at (content files file), fits))
 
 module _ (new_size : ℕ) (files : Files) (seen : SeenView) (s : IsSeen new_size files seen) (old : seen.is_new ≡ false) where
-  size_is : seen.page_size ≡ size_in files
+  pub size_is : seen.page_size ≡ size_in files
   size_is = s.page_size ∙ ap (λ (new : Bool). if new then new_size else size_in files) old
 
-  count_is : length seen.places ≡ length (map_found files)
+  pub count_is : length seen.places ≡ length (map_found files)
   count_is = s.count ∙ ap (λ (new : Bool). if new then 0 else length (map_found files)) old
 
   -- each page of the recovered map
@@ -80,4 +80,5 @@ module _ (new_size : ℕ) (files : Files) (seen : SeenView) (s : IsSeen new_size
         size = seen.page_size;
         long = 0;
         map = [];
+        own = false;
       }

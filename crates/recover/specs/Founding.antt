@@ -1,8 +1,9 @@
 -- The first commit of a new database, or of one whose versions aren't this program's.
-use Rattle.std.specs.Prelude.{◌≡◌, ◌≢◌, ℕ, ◌+◌, ◌≤◌, ◌<◌, ◌^◌, Bool, List, [], ◌∷◌, length, Option, None, IfSome}
+use Rattle.std.specs.Prelude.{◌≡◌, ◌≢◌, ℕ, ◌+◌, ◌*◌, max, true, ◌≤◌, ◌<◌, ◌^◌, Bool, List, [], ◌∷◌, length, Option, None, IfSome}
 use Rattle.disk_face.specs.declared.disk.File.TheVariants.{Log1, Log2}
 use Rattle.disk_face.specs.Steps.{History, reads}
 use Rattle.page_spec.specs.PageMap.{PageMap}
+use Rattle.log_spec.specs.LogHeader.{log_fields}
 use Rattle.log_spec.specs.Accept.{Frame, page_number, page_of, last_size}
 use Rattle.crash_spec.specs.Opening.{Since}
 use Rattle.crash_spec.specs.Passes.{Passes, WhereDone}
@@ -35,7 +36,7 @@ pub record IsCommitting (view : OpeningView) (later : PageMap) (main : List ℕ)
 
 -- what an opening goes by once the commit is made: the map with it, and Main as long as it is then
 abbrev pub later_view : OpeningView → PageMap → (main : List ℕ) → OpeningView
-later_view view later main = record { opening = view.opening; size = view.size; long = length main; map = later }
+later_view view later main = record { opening = view.opening; size = view.size; long = length main; map = later; own = true }
 
 -- log 1 with these frames
 abbrev pub with_first : FoundLog → List Frame → FoundLog
@@ -70,12 +71,13 @@ CommitsPages pair page count size old new =
 abbrev pub FailsToCommit : (pair : PairView) (page : ℕ → List ℕ) (count size : ℕ) → Option History → Option History → Type 0
 FailsToCommit pair page count size old new = Commits pair page count size (λ view map main one two told. Unit {0}) old new
 
--- From the third state, where log 1 may get this header, whose salts are the next ones, log 2 has no frame, and Main has these bytes: what a
--- crash leaves is the map before or the later one.
+-- From the third state, where log 1 may get this header, whose salts are the next ones and which has the page size, log 2 has no frame, and Main
+-- has these bytes, no more than it had at first or than the later map has: what a crash leaves is the map before or the later one.
 abbrev pub Founds : (bytes : List ℕ) → Bool → (OpeningView → PageMap → List ℕ → FoundLog → FoundLog → History → Type 0) → Option History → Option History → Type 0
 Founds bytes ok Then old new =
     (view : OpeningView) (later : PageMap) (main : List ℕ) (one two : FoundLog) → Since view.opening.start (IsResetting view Log1 one two None) old
-    → IsNextHeader Log1 one bytes → two.frames ≡ [] → IfSome old (λ told. ((reads told).main ≡ main) × (100 ≤ view.size))
+    → IsNextHeader Log1 one bytes → two.frames ≡ [] → IfSome old (λ told. ((reads told).main ≡ main) × (100 ≤ view.size) × ((log_fields bytes).page_size ≡ view.size)
+    × (length main ≤ max (length (reads view.opening.start).main) (length later * view.size)))
     → Passes view.opening (LeavesEither view later) (WhereDone ok (Then view later main (next_log one) two)) old new
 
 -- the same, where so many pages make the later map
@@ -83,7 +85,8 @@ abbrev pub FoundsMap : (bytes : List ℕ) (page : ℕ → List ℕ) (count size 
 FoundsMap bytes page count size Then old new =
     (view : OpeningView) (later : PageMap) (main : List ℕ) (one two : FoundLog) → MakesMap main view.size later page count size
     → Since view.opening.start (IsResetting view Log1 one two None) old
-    → IsNextHeader Log1 one bytes → two.frames ≡ [] → IfSome old (λ told. ((reads told).main ≡ main) × (100 ≤ view.size))
+    → IsNextHeader Log1 one bytes → two.frames ≡ [] → IfSome old (λ told. ((reads told).main ≡ main) × (100 ≤ view.size) × ((log_fields bytes).page_size ≡ view.size)
+    × (length main ≤ max (length (reads view.opening.start).main) (length later * view.size)))
     → Passes view.opening (LeavesEither view later) (Then view later main (next_log one) two) old new
 
 -- The commit of so many pages was made.

@@ -6,3 +6,4 @@ pub mod NewPages
 pub mod Founding
 pub mod Ready
 pub mod Texts
+pub mod AsLooked

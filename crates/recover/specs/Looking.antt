@@ -80,14 +80,18 @@ abbrev pub first_size_at : ℕ → Place → ℕ
 first_size_at main InMain = if nat_lt main first_size then main else first_size
 first_size_at main (InLog file at) = first_size
 
--- the file that has the page there, and where the page begins, where it is page 1
+-- the file that has the page there, and where a page of this size and number begins
 abbrev pub file_of : Place → File
 file_of InMain = Main
 file_of (InLog file at) = file
 
-abbrev pub start_at : Place → ℕ
-start_at InMain = 0
-start_at (InLog file at) = at
+abbrev pub start_at : (size number : ℕ) → Place → ℕ
+start_at size number InMain = (number - 1) * size
+start_at size number (InLog file at) = at
+
+-- the bytes of the page that stand there
+abbrev pub page_there : Files → (size number : ℕ) → Place → List ℕ
+page_there files size number place = take size (drop (start_at size number place) (content files (file_of place)))
 
 -- a log has that many bytes of page 1 there
 abbrev pub FitsFirst : Files → Place → Type 0

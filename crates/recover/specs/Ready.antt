@@ -17,7 +17,7 @@ use Rattle.recover.specs.declared.setup.StoreKind.{StoreKind}
 
 -- what an opening goes by, with the map with which the store begins
 abbrev pub store_view : OpeningView → PageMap → OpeningView
-store_view view later = record { opening = view.opening; size = view.size; long = view.long; map = later }
+store_view view later = record { opening = view.opening; size = view.size; long = view.long; map = later; own = true }
 
 -- Both logs have the headers of the pair and no frames, all is on the medium, and Main is the map with which the store begins, whose page 1
 -- names the page size.
@@ -59,3 +59,4 @@ pub record IsViewOf (seen : SeenView) (files : Files) (view : OpeningView) (one 
   pub size : view.size ≡ seen.page_size
   pub long : view.long ≡ length files.main
   pub bare : founds seen ≡ true → two.frames ≡ []
+  pub own : seen.is_new ≡ false → seen.is_ours ≡ true → view.own ≡ true

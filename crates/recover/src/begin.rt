@@ -120,7 +120,7 @@ pub(crate) fn settle_ours<D: Disk, W: Salts>(
     ensures generation { IfOk result (λ pair. (current_header pair).generation ≡ last_written false (newest_of one.now two.now)) }
     ensures moments { (view : OpeningView) (has1 has2 : FoundLog) → Since view.opening.start (IsSyncing view has1 has2 []) (D.told disk.old) → length buf.old ≡ view.size
         → (some_frames ≡ false → (has1.frames ≡ []) × (has2.frames ≡ [])) → (some_frames ≡ true → IfSome (D.told disk.old) (λ told. AreSeen view has1 has2 places.now (reads told)))
-        → IfSome (D.told disk.old) (λ told. IsFirst (reads told) (first_of one.now two.now) has1 has2) → 1 ≤ length view.map
+        → IfSome (D.told disk.old) (λ told. IsFirst (reads told) (first_of one.now two.now) has1 has2) → 1 ≤ length view.map → view.own ≡ true
         → has1.salt ≡ last_salt one.now % 2 ^ 32 → has2.salt ≡ last_salt two.now % 2 ^ 32 → has1.most ≡ 0 → has2.most ≡ 0
         → Passes view.opening (LeavesOpening view) (ReadyWith result view view.map) (D.told disk.old) (D.told disk.new) }
     ensures stays { OnlyWrites D.DiskTells disk.old disk.new }

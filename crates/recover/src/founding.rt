@@ -167,7 +167,7 @@ fn write_first<D: Disk>(disk: &mut D, buf: &mut [u8], pages: u32) -> Result<(), 
     requires small { length buf.old ≤ 65536 }
     requires pages { (1 ≤ pages) × (pages < 4294967295) }
     ensures moments { (view : OpeningView) (one two : FoundLog) → Since view.opening.start (IsWriting view one two 1) (D.told disk.old) → length buf.old ≡ view.size
-        → two.frames ≡ [] → HoldFrom (first_then_zeros buf.old) 1 one.frames → length one.frames ≡ pages
+        → two.frames ≡ [] → HoldFrom (first_then_zeros buf.old) 1 one.frames → length one.frames ≡ pages → pages ≤ length view.map
         → Passes view.opening (LeavesMap view) (ByAnswer (is_ok result) (IsWriting view one two (pages + 1)) (AreSynced view one two)) (D.told disk.old) (D.told disk.new) }
     ensures stays { OnlyWrites D.DiskTells disk.old disk.new }
     ensures faults { Counts (is_ok result) (D.faults disk.old) (D.faults disk.new) }
@@ -192,7 +192,7 @@ fn lay_first<D: Disk>(disk: &mut D, buf: &mut [u8], pages: u32) -> Result<(), Fa
     requires pages { (1 ≤ pages) × (pages < 4294967295) }
     ensures moments { (view : OpeningView) (one two : FoundLog) → Since view.opening.start (AreSynced view one two) (D.told disk.old) → length buf.old ≡ view.size
         → IfSome (D.told disk.old) (λ told. length (reads told).main ≡ view.long)
-        → two.frames ≡ [] → HoldFrom (first_then_zeros buf.old) 1 one.frames → length one.frames ≡ pages
+        → two.frames ≡ [] → HoldFrom (first_then_zeros buf.old) 1 one.frames → length one.frames ≡ pages → pages ≤ length view.map
         → Passes view.opening (LeavesMap view) (ByAnswer (is_ok result) (IsLaidDown view one two (pages + 1)) (AreSynced view one two)) (D.told disk.old) (D.told disk.new) }
     ensures stays { OnlyWrites D.DiskTells disk.old disk.new }
     ensures faults { Counts (is_ok result) (D.faults disk.old) (D.faults disk.new) }

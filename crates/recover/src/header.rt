@@ -15,7 +15,7 @@ ghost use Rattle.crash_spec.specs.Marks.{other_of};
 ghost use Rattle.crash_spec.specs.Opening.{Since};
 ghost use Rattle.crash_spec.specs.Passes.{Passes, WhereDone};
 ghost use Rattle.opening_spec.specs.Found.{FoundLog, OpeningView, IsNextHeader, found_log, next_log};
-ghost use Rattle.opening_spec.specs.States.{IsResetting, HasReset, IsSettled, LeavesMap, header1_of, header2_of};
+ghost use Rattle.opening_spec.specs.States.{IsResetting, HasReset, IsSettled, MayBeOurs, LeavesMap, header1_of, header2_of};
 ghost use Rattle.recover.specs.Headers.{last_salt, generation_in, next_even, first_of};
 ghost use Rattle.recover.specs.Seeing.{next_odd, last_written, newest_of};
 ghost use Rattle.wal_frames.specs.declared.header.Front.TheVariants.{Ours};
@@ -205,7 +205,7 @@ pub(crate) fn first_headers<W: Salts>(
 fn reset_log<D: Disk>(disk: &mut D, log: File, header: &NewHeader) -> Result<(), Failed>
     requires { D.attached disk.old ≡ true }
     ensures moments { (view : OpeningView) (one two : FoundLog) (beside : Option LogFields) → Since view.opening.start (IsResetting view log one two beside) (D.told disk.old)
-        → IsNextHeader log (found_log log one two) header.now.bytes
+        → IsNextHeader log (found_log log one two) header.now.bytes → (log ≡ Log2 → MayBeOurs view)
         → Passes view.opening (LeavesMap view) (WhereDone (is_ok result) (HasReset view log (log_fields header.now.bytes) one two beside)) (D.told disk.old) (D.told disk.new) }
     ensures stays { OnlyWrites D.DiskTells disk.old disk.new }
     ensures faults { Counts (is_ok result) (D.faults disk.old) (D.faults disk.new) }
@@ -223,7 +223,7 @@ pub(crate) fn reset_logs<D: Disk>(
 ) -> Result<(), Failed>
     requires attached { D.attached disk.old ≡ true }
     requires other { second ≡ other_of first }
-    ensures moments { (view : OpeningView) (one two : FoundLog) → Since view.opening.start (IsResetting view first one two None) (D.told disk.old)
+    ensures moments { (view : OpeningView) (one two : FoundLog) → Since view.opening.start (IsResetting view first one two None) (D.told disk.old) → MayBeOurs view
         → IsNextHeader first (found_log first one two) here.now.bytes → IsNextHeader (other_of first) (found_log (other_of first) one two) there.now.bytes
         → Passes view.opening (LeavesMap view) (WhereDone (is_ok result) (IsSettled view (header1_of first (log_fields here.now.bytes) (log_fields there.now.bytes)) (header2_of first (log_fields here.now.bytes) (log_fields there.now.bytes)))) (D.told disk.old) (D.told disk.new) }
     ensures stays { OnlyWrites D.DiskTells disk.old disk.new }

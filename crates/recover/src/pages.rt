@@ -27,7 +27,7 @@ pub(crate) fn write_page<D: Disk>(disk: &mut D, number: u32, bytes: &[u8]) -> Re
     requires small { length bytes.now ≤ 65536 }
     requires reached { IsInside (D.told disk.old) Main ((number - 1) * length bytes.now) 0 }
     ensures moments { (view : OpeningView) (one two : FoundLog) → Since view.opening.start (IsWriting view one two number) (D.told disk.old) → length bytes.now ≡ view.size
-        → IfSome (D.told disk.old) (λ told. Contains (pages_held one two) number × (bytes.now ≡ page_in view.size (reads told) one two number))
+        → IfSome (D.told disk.old) (λ told. Contains (pages_held one two) number × (bytes.now ≡ page_in view.size (reads told) one two number) × (number ≤ length view.map))
         → Passes view.opening (LeavesMap view) (ByAnswer (is_ok result) (IsWriting view one two (number + 1)) (AreSynced view one two)) (D.told disk.old) (D.told disk.new) }
     ensures written { OnOk result (D.told disk.new ≡ after (Wrote (page_piece number (length bytes.now) bytes.now)) (D.told disk.old)) }
     ensures stays { OnlyWrites D.DiskTells disk.old disk.new }
@@ -54,7 +54,7 @@ fn copy_page<D: Disk>(
     requires reached { IsInside (D.told disk.old) Main ((number - 1) * length buf.old) 0 }
     requires fits { IfSome (D.told disk.old) (λ told. FitsPlace (reads told) (length buf.old) number (Place.InLog file at)) }
     ensures moments { (view : OpeningView) (one two : FoundLog) → Since view.opening.start (IsWriting view one two number) (D.told disk.old) → length buf.old ≡ view.size
-        → IfSome (D.told disk.old) (λ told. IsPlaceOf view one two (reads told) number (Place.InLog file at))
+        → IfSome (D.told disk.old) (λ told. IsPlaceOf view one two (reads told) number (Place.InLog file at) × (number ≤ length view.map))
         → Passes view.opening (LeavesMap view) (ByAnswer (is_ok result) (IsWriting view one two (number + 1)) (AreSynced view one two)) (D.told disk.old) (D.told disk.new) }
     ensures only { OnOk result (OnlyMain (D.told disk.old) (D.told disk.new)) }
     ensures reached { OnOk result (IsInside (D.told disk.new) Main (number * length buf.old) 0) }
@@ -83,7 +83,7 @@ fn settle_page<D: Disk>(
     requires reached { IsInside (D.told disk.old) Main ((number - 1) * length buf.old) 0 }
     requires fits { IfSome (D.told disk.old) (λ told. FitsPlace (reads told) (length buf.old) number place) }
     ensures moments { (view : OpeningView) (one two : FoundLog) → Since view.opening.start (IsWriting view one two number) (D.told disk.old) → length buf.old ≡ view.size
-        → IfSome (D.told disk.old) (λ told. IsPlaceOf view one two (reads told) number place)
+        → IfSome (D.told disk.old) (λ told. IsPlaceOf view one two (reads told) number place × (number ≤ length view.map))
         → Passes view.opening (LeavesMap view) (ByAnswer (is_ok result) (IsWriting view one two (number + 1)) (AreSynced view one two)) (D.told disk.old) (D.told disk.new) }
     ensures only { OnOk result (OnlyMain (D.told disk.old) (D.told disk.new)) }
     ensures reached { OnOk result (IsInside (D.told disk.new) Main (number * length buf.old) 0) }
@@ -103,7 +103,7 @@ fn write_pages<D: Disk>(disk: &mut D, places: &[Place], buf: &mut [u8]) -> Resul
     requires few { length places.now < 4294967295 }
     requires fits { IfSome (D.told disk.old) (λ told. FitPlaces (reads told) (length buf.old) places.now) }
     ensures moments { (view : OpeningView) (one two : FoundLog) → Since view.opening.start (IsWriting view one two 1) (D.told disk.old) → length buf.old ≡ view.size
-        → IfSome (D.told disk.old) (λ told. ArePlacesOf view one two (reads told) places.now)
+        → IfSome (D.told disk.old) (λ told. ArePlacesOf view one two (reads told) places.now × (length places.now ≤ length view.map))
         → Passes view.opening (LeavesMap view) (ByAnswer (is_ok result) (IsWriting view one two (length places.now + 1)) (AreSynced view one two)) (D.told disk.old) (D.told disk.new) }
     ensures only { OnOk result (OnlyMain (D.told disk.old) (D.told disk.new)) }
     ensures reached { OnOk result (IsInside (D.told disk.new) Main (length places.now * length buf.old) 0) }

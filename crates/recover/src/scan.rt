@@ -9,9 +9,9 @@ ghost use Rattle.disk_face.specs.Steps.{reads};
 ghost use Rattle.disk_face.specs.Told.{IsSize, IsInside, IsRead};
 ghost use Rattle.db_header.specs.Header.{refusal, IsTold};
 ghost use Rattle.wal_frames.specs.Found.{FindsAccepted, IsLegal, log_file};
-ghost use Rattle.recover.specs.Looking.{TellsFirst, AreRead, IsLegalLook, IsOutsideFault, IsHeaderFault, is_disk_fine, size_counts, bytes_at, first_size_at, file_of, start_at, FitsFirst, IsFirstFault, AreLegal, AreScanned, IsPage1, place_in, is_new_read};
+ghost use Rattle.recover.specs.Looking.{TellsFirst, AreRead, IsLegalLook, IsOutsideFault, IsHeaderFault, is_disk_fine, size_counts, bytes_at, first_size_at, FitsFirst, IsFirstFault, AreLegal, AreScanned, IsPage1, place_in, is_new_read};
 
-use crate::place::Place;
+use crate::place::{Place, read_place};
 use crate::places::first_place;
 use crate::seen::LookFault;
 use be_fields::get_u32;
@@ -121,25 +121,6 @@ fn first_size(place: Place, main: u64) -> usize
     }
 }
 
-/// Reads bytes from where a page stands on.
-fn read_place<D: Disk>(disk: &mut D, place: Place, bytes: &mut [u8]) -> Result<(), LookFault>
-    requires attached { D.attached disk.old ≡ true }
-    requires inside { IsInside (D.told disk.old) (file_of place) (start_at place) (length bytes.old) }
-    ensures bytes { OnOk result (IsRead (D.told disk.old) (file_of place) (start_at place) bytes.new) }
-    ensures fault { IfErr result (λ why. why ≡ LookFault.Disk) }
-    ensures stays { OnlyReads D.DiskTells disk.old disk.new }
-    ensures faults { Counts (is_ok result) (D.faults disk.old) (D.faults disk.new) }
-{
-    let (file, at) = match place {
-        Place::InMain => (File::Main, 0),
-        Place::InLog { file, at } => (file, at),
-    };
-    match disk.read_at(file, at, bytes) {
-        Ok(()) => Ok(()),
-        Err(Failed) => Err(LookFault::Disk),
-    }
-}
-
 /// Reads the first bytes of page 1 into the buffer, which has room for just these, and says what they tell.
 fn tell_place<D: Disk>(
     disk: &mut D,
@@ -157,12 +138,12 @@ fn tell_place<D: Disk>(
     ensures stays { OnlyReads D.DiskTells disk.old disk.new }
     ensures faults { Counts (is_disk_fine result) (D.faults disk.old) (D.faults disk.new) }
 {
-    match read_place(disk, place, bytes) {
+    match read_place(disk, place, 1, bytes) {
         Ok(()) => match tell_first(bytes, main) {
             Ok(first) => Ok(first),
             Err(fault) => Err(LookFault::Header(fault)),
         },
-        Err(_) => Err(LookFault::Disk),
+        Err(Failed) => Err(LookFault::Disk),
     }
 }
 

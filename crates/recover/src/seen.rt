@@ -1,5 +1,5 @@
 // What an opening sees of a database's files before it writes anything.
-ghost use Rattle.std.specs.Prelude.{◌≡◌, ◌<◌, length};
+ghost use Rattle.std.specs.Prelude.{◌≡◌, ◌-◌, ◌<◌, ◌≤◌, length, slice_index_or};
 ghost use Rattle.crash_spec.specs.Marks.{number_of};
 ghost use Rattle.recover.specs.Seeing.{is_front_ours};
 
@@ -127,6 +127,14 @@ impl Seen {
         ensures { result ≡ length self.now.places }
     {
         self.places.len() as u32
+    }
+
+    /// Where a page of the recovered map stands.
+    pub(crate) fn place_of(&self, page: u32) -> Place
+        requires { (1 ≤ page) × (page ≤ length self.now.places) }
+        ensures { (none : Place) → result ≡ slice_index_or self.now.places (page - 1) none }
+    {
+        self.places[page as usize - 1]
     }
 
     /// The size in pages that page 1 names, for a file as long as the database is once all that the logs hold is written to it; 0 where

@@ -46,7 +46,7 @@ pub(crate) fn settle_files<D: Disk>(
     requires other { headers.now.second ≡ other_of headers.now.first }
     ensures moments { (view : OpeningView) (one two : FoundLog) → Since view.opening.start (IsSyncing view one two []) (D.told disk.old) → length buf.old ≡ view.size
         → (some_frames ≡ false → (one.frames ≡ []) × (two.frames ≡ [])) → (some_frames ≡ true → IfSome (D.told disk.old) (λ told. AreSeen view one two places.now (reads told)))
-        → IfSome (D.told disk.old) (λ told. IsFirst (reads told) headers.now.first one two)
+        → IfSome (D.told disk.old) (λ told. IsFirst (reads told) headers.now.first one two) → view.own ≡ true
         → IsNextHeader headers.now.first (found_log headers.now.first one two) headers.now.here.bytes
         → IsNextHeader (other_of headers.now.first) (found_log (other_of headers.now.first) one two) headers.now.there.bytes
         → Passes view.opening (LeavesOpening view) (WhereDone (is_ok result) (IsSettled view (header1_of headers.now.first (log_fields headers.now.here.bytes) (log_fields headers.now.there.bytes)) (header2_of headers.now.first (log_fields headers.now.here.bytes) (log_fields headers.now.there.bytes)))) (D.told disk.old) (D.told disk.new) }

@@ -47,10 +47,6 @@ database_alike a b is database =
 pub fields_alike : (a b : List ℕ) → take 100 a ≡ take 100 b → fields_of a ≡ fields_of b
 fields_alike a b is = sym (header-take 100 a (omega arith)) ∙ ap (λ (bytes : List ℕ). fields_of bytes) is ∙ header-take 100 b (omega arith)
 
-pub pages_alike : (a b : List ℕ) (n : ℕ) → fields_of a ≡ fields_of b → pages_in a n ≡ pages_in b n
-unfolding pages_in
-pages_alike a b n is = rw is refl
-
 pub header_alike : (a b : List ℕ) → take 100 a ≡ take 100 b → IsHeader a → IsHeader b
 header_alike a b is h =
     let same = fields_alike a b is in
@@ -90,20 +86,3 @@ fewer_pages first less more sized le = by (nat_lt 0 (fields_of first).pages && (
     by : (counts : Bool) → (if counts then (fields_of first).pages else less / page_size_in (fields_of first)) ≤ (if counts then (fields_of first).pages else more / page_size_in (fields_of first))
     by true = omega arith
     by false = quotients less more (page_size_in (fields_of first)) sized le
-
--- where so many pages are named for a longer file, and the shorter one has room for them, they are named for it too
-pub still_named : (first : List ℕ) (less more count : ℕ) → 0 < page_size_in (fields_of first) → less ≤ more → count * page_size_in (fields_of first) ≤ less
-    → pages_in first more ≡ count → pages_in first less ≡ count
-unfolding pages_in
-still_named first less more count sized le room = by (nat_lt 0 (fields_of first).pages && (fields_of first).change_counter == (fields_of first).valid_for)
-  where
-    between : (a b n count : ℕ) → 0 < n → a ≤ b → count * n ≤ a → b / n ≡ count → a / n ≡ count
-    between a b n count some le room is =
-        let low = le-div count a n some room in
-        let high = le-div (a / n) b n some (omega (arith, div-mul-le_self a n, le)) in
-        omega (arith, low, high, is)
-
-    by : (counts : Bool) → (if counts then (fields_of first).pages else more / page_size_in (fields_of first)) ≡ count
-        → (if counts then (fields_of first).pages else less / page_size_in (fields_of first)) ≡ count
-    by true is = is
-    by false is = between less more (page_size_in (fields_of first)) count sized le room is

@@ -12,7 +12,8 @@ use Rattle.log_spec.specs.LogHeader.{log_fields, last_generation}
 use Rattle.log_spec.specs.Accept.{page_numbers}
 use Rattle.db_header.specs.Header.{refusal}
 use Rattle.wal_frames.specs.Front.{front_of}
-use Rattle.crash_spec.specs.Recovered.{main_page, page_after_frames, size_after}
+use Rattle.crash_spec.specs.Recovered.{main_page, page_after_frames, size_after, size_of_first}
+use Rattle.crash_spec.proofs.NamedPages.{pages_alike}
 use Rattle.opening_spec.specs.Found.{older_in, newer_in, page_in, pages_held}
 use Rattle.opening_spec.proofs.Beginning.{map_is_recovered}
 use Rattle.opening_spec.proofs.Laid.{page_1_is}
@@ -20,8 +21,8 @@ use Rattle.opening_spec.proofs.Written.{page_of_both, page_of_neither}
 use Rattle.recover.specs.Seeing.{one_in, two_in, is_new_in, is_ours_in, first_in, size_in, map_found, fault_of, header_fault, wal_fault, room_fault, missing_fault, is_held, first_missing, of_header, of_missing, generation_opened, is_log_mode, size_fault, is_front_ours}
 use Rattle.recover.proofs.SeenFiles.{legal_size}
 use Rattle.store.specs.Opening.{AreOpened, fault_by, pages_fault, named_in, byte_in, is_mixed}
-use Rattle.reopening.specs.Reopening.{HasOwnVersions, MayReopen, size_of_first}
-use Rattle.reopening.proofs.FirstBytes.{le_true, database_is_long, fields_alike, pages_alike, header_alike, accepted_within, fewer_pages}
+use Rattle.reopening.specs.Reopening.{HasOwnVersions, MayReopen}
+use Rattle.reopening.proofs.FirstBytes.{le_true, database_is_long, fields_alike, header_alike, accepted_within, fewer_pages}
 use Rattle.reopening.proofs.PagesHeld.{nth_page, length_pages, among_or_not, none_missing, whole_inside, page_end}
 use Rattle.reopening.proofs.Fronts.{front_familiar, not_legacy, not_foreign, size_fits, not_ours, size_read, none_either, none_unless}
 

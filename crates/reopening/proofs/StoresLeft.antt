@@ -11,17 +11,17 @@ use Rattle.log_spec.specs.LogHeader.{LogFields, last_generation}
 use Rattle.log_spec.specs.Accept.{Frame, last_size}
 use Rattle.crash_spec.specs.Opening.{Opening}
 use Rattle.crash_spec.specs.Known.{known_pieces, IsWithoutChance}
-use Rattle.crash_spec.specs.Logs.{IsOursAt, NoneForeign}
-use Rattle.crash_spec.specs.Recovered.{overlaid, recovered}
+use Rattle.crash_spec.specs.Logs.{IsOursAt, NoneForeign, HaveSize}
+use Rattle.crash_spec.specs.Recovered.{overlaid, recovered, size_of_first}
 use Rattle.crash_spec.specs.Store.{AreOnDisk, named_size}
 use Rattle.crash_spec.proofs.Headers.{none_foreign}
 use Rattle.crash_spec.proofs.LogImages.{image_header}
+use Rattle.crash_spec.proofs.NamedPages.{still_named}
 use Rattle.crash_spec.proofs.StoreImages.{store_images}
 use Rattle.recover.specs.Seeing.{generation_opened}
 use Rattle.recover.proofs.SeenFiles.{legal_size}
 use Rattle.store.specs.Opening.{AreOpened}
-use Rattle.reopening.specs.Reopening.{HaveSize, IsStoreMap, size_of_first}
-use Rattle.reopening.proofs.FirstBytes.{still_named}
+use Rattle.reopening.specs.Reopening.{IsStoreMap}
 use Rattle.reopening.proofs.Reopened.{reopened}
 
 module _ (opening : Opening) (told : History) (header older : LogFields) (frames pending other : List Frame) (size : ℕ) (image : Files) where

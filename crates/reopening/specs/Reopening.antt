@@ -1,27 +1,13 @@
 -- What files that a crash left need so that the next opening takes them.
-use Rattle.std.specs.Prelude.{◌≡◌, ◌⊎◌, ℕ, ◌*◌, ◌≤◌, max, true, false, [], length, slice_index, All}
-use Rattle.disk_face.specs.declared.disk.File.{File}
-use Rattle.disk_face.specs.declared.step.Piece.{Piece}
-use Rattle.disk_face.specs.declared.step.Step.{Step}
-use Rattle.disk_face.specs.declared.step.Step.TheVariants.{Wrote, Refused, Synced}
-use Rattle.disk_face.specs.Files.{Files, content}
-use Rattle.page_spec.specs.Header.{fields_of, page_size_in, pages_in, IsHeader}
+use Rattle.std.specs.Prelude.{◌≡◌, ◌⊎◌, ◌*◌, ◌≤◌, max, false, ℕ, length, slice_index, All}
+use Rattle.disk_face.specs.Files.{Files}
+use Rattle.page_spec.specs.Header.{fields_of, pages_in, IsHeader}
 use Rattle.page_spec.specs.PageMap.{PageMap, page_at}
-use Rattle.log_spec.specs.LogHeader.{log_fields, last_generation, is_signed}
-use Rattle.log_spec.specs.Frames.{accepted_frames, is_ours}
-use Rattle.crash_spec.specs.Marks.{IsLog, number_of}
-use Rattle.crash_spec.specs.Logs.{NoneForeign}
-use Rattle.crash_spec.specs.Recovered.{recovered}
+use Rattle.log_spec.specs.LogHeader.{last_generation}
+use Rattle.log_spec.specs.Frames.{is_ours}
+use Rattle.crash_spec.specs.Logs.{NoneForeign, HaveSize}
+use Rattle.crash_spec.specs.Recovered.{recovered, size_of_first}
 use Rattle.recover.specs.Seeing.{generation_opened}
-
--- each log with an accepted frame has a header of this page size
-abbrev pub HaveSize : ℕ → Files → Type 0
-HaveSize size files =
-    (log : File) → IsLog log → (accepted_frames (number_of log) (content files log) ≡ [] → ⊥) → (log_fields (content files log)).page_size ≡ size
-
--- the page size that page 1 of a map names
-abbrev pub size_of_first : PageMap → ℕ
-size_of_first pages = page_size_in (fields_of (page_at pages 1))
 
 -- A map that is read as a page store: 16 pages of the size that page 1 names, whose header is a readable database's and which has no tree.
 pub record IsReadableStore (pages : PageMap) : Type 0 where
@@ -53,13 +39,3 @@ pub record IsStoreMap (long size : ℕ) (pages : PageMap) : Type 0 where
   pub own : HasOwnVersions pages
   pub sized : size_of_first pages ≡ size
   pub named : pages_in (page_at pages 1) (max long (16 * size_of_first pages)) ≡ 16
-
--- a piece at the front of the log that is signed is a header with this page size
-abbrev pub IsSizedAt : File → ℕ → Piece → Type 0
-IsSizedAt log size piece = piece.file ≡ log → piece.at ≡ 0 → is_signed piece.bytes ≡ true → (log_fields piece.bytes).page_size ≡ size
-
--- what a step hands to a write has P
-abbrev pub Hands : (Piece → Type 0) → Step → Type 0
-Hands P (Wrote piece) = P piece
-Hands P (Refused piece left) = P piece
-Hands P (Synced file) = Unit {0}

@@ -27,13 +27,14 @@ use Rattle.opening_spec.specs.Found.{OpeningView}
 use Rattle.recover.specs.Ready.{IsReady, IsNewPair}
 use Rattle.recover.proofs.Begun.{ready_holds}
 use Rattle.recover.proofs.NewPages.{one_of}
-use Rattle.recover.proofs.SeenFiles.{legal_size}
+use Rattle.recover.proofs.SeenFiles.{legal_size, is_legal}
 use Rattle.store_spec.specs.Store.{StoreData, newest_told, since_of}
 use Rattle.store_spec.specs.Pins.{PinHolds, mark_at}
 use Rattle.store_spec.specs.Standing.{IsWholeStore, IsReadable, AreFronts, StandsOn, IsOpenedAt, IsLiveStore, StandsFrom}
 use Rattle.store_spec.specs.Steady.{IsSteady}
 use Rattle.store_spec.proofs.NamedLaws.{named_bare}
 use Rattle.store_spec.proofs.Named.{named_none}
+use Rattle.store_spec.proofs.OwnFronts.{names_bare}
 use Rattle.store_spec.proofs.Reading.{on_has, page_of_overlaid}
 use Rattle.store.specs.Opening.{IsBeginning, page_count, no_frames, first_state, no_readers}
 
@@ -63,38 +64,6 @@ kept_is bytes used most kept b = λ i. record {
   history = b.history i;
   stop = b.stop i;
 }
-
--- each page size that a header may name is one of the list
-same_number : (m n : ℕ) → nat_eq m n ≡ true → n ≡ m
-same_number m n is = grind (arith, nat_tests)
-
-pub is_legal : (n : ℕ) → is_page_size n ≡ true → Contains page_sizes n
-unfolding is_page_size
-is_legal n is = elim (one_of (nat_eq n 512) _ is) [
-  | inl at ↦ (0, omega arith, same_number n 512 at)
-  | inr is ↦ elim (one_of (nat_eq n 1024) _ is) [
-    | inl at ↦ (1, omega arith, same_number n 1024 at)
-    | inr is ↦ elim (one_of (nat_eq n 2048) _ is) [
-      | inl at ↦ (2, omega arith, same_number n 2048 at)
-      | inr is ↦ elim (one_of (nat_eq n 4096) _ is) [
-        | inl at ↦ (3, omega arith, same_number n 4096 at)
-        | inr is ↦ elim (one_of (nat_eq n 8192) _ is) [
-          | inl at ↦ (4, omega arith, same_number n 8192 at)
-          | inr is ↦ elim (one_of (nat_eq n 16384) _ is) [
-            | inl at ↦ (5, omega arith, same_number n 16384 at)
-            | inr is ↦ elim (one_of (nat_eq n 32768) _ is) [
-              | inl at ↦ (6, omega arith, same_number n 32768 at)
-              | inr is ↦ elim (one_of (nat_eq n 65536) _ is) [
-                | inl at ↦ (7, omega arith, same_number n 65536 at)
-                | inr is ↦ cc
-              ]
-            ]
-          ]
-        ]
-      ]
-    ]
-  ]
-]
 
 -- what a generation of log 1 is
 pub generation_of_one : (g : ℕ) → is_generation 1 g ≡ true → (1 ≤ g) × (g ≤ last_generation) × (g % 2 ≡ 1)
@@ -176,6 +145,8 @@ module _ (bytes used most : ℕ) (may : MayBegin bytes used most) (pair : PairVi
     other_whole = λ place inside. r.settled.log2.sure place;
     main_whole = λ done. r.settled.written.main;
     fronts = fronts;
+    names = names_bare bytes (reads told).main (omega (arith, (legal_size bytes may.legal).0)) holds.sized;
+    later_names = λ some. absurd (some refl);
   })
     where
       pair_is : IsNewPair view.size kept.pair
@@ -192,6 +163,7 @@ module _ (bytes used most : ℕ) (may : MayBegin bytes used most) (pair : PairVi
         most1 = r.settled.one.most;
         most2 = r.settled.two.most;
         few = (r.settled.last1.few, omega (arith, r.settled.last2.few, new.newer));
+        sizes = (new.size_one, new.size_two);
         log1 = record {
           only = r.settled.written.log1.only;
           behind = subst (λ (salt : ℕ). AreBehind (known_pieces view.opening told) Log1 salt r.settled.one.most) (sym r.settled.last1.salt) r.settled.written.log1.behind;

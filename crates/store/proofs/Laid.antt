@@ -1,12 +1,12 @@
 -- The pages that a commit writes, over the newest map of a store.
-use Rattle.std.proofs.Common.{◌≡◌, ◌∙◌, ℕ, ◌≤◌, ◌==◌, if◌then◌else◌, Bool, true, false, List, [], ◌∷◌, length, map, take, drop, refl, sym, ap, subst, arith, Contains, Option, Some, None}
+use Rattle.std.proofs.Common.{◌≡◌, ◌∙◌, ℕ, zero, suc, ◌+◌, ◌^◌, ◌≤◌, ◌<◌, ◌==◌, if◌then◌else◌, Bool, true, false, List, [], ◌∷◌, length, map, take, drop, refl, sym, ap, subst, arith, Contains, Option, Some, None}
 use Rattle.std.specs.Prelude.{All, IfSome, ◌*◌}
 use Rattle.std.proofs.lemmas.List.Elements.{All-cons, All-map}
 use Rattle.disk_face.specs.Steps.{History, reads}
-use Rattle.page_spec.specs.Header.{fields_of, page_size_in}
+use Rattle.page_spec.specs.Header.{database_limit, fields_of, page_size_in}
 use Rattle.page_spec.specs.PageMap.{PageMap, page_at}
 use Rattle.log_spec.specs.Accept.{Frame, page_number, page_of}
-use Rattle.crash_spec.specs.Recovered.{page_after_frames, main_page, overlaid}
+use Rattle.crash_spec.specs.Recovered.{page_after_frames, main_page, overlaid, NamesPages}
 use Rattle.crash_spec.specs.Store.{named_size}
 use Rattle.opening_spec.proofs.Laid.{header-take}
 use Rattle.engine_spec.specs.declared.commits.Commit.{Commit}
@@ -18,6 +18,7 @@ use Rattle.engine_spec.specs.Good.{HasSizes}
 use Rattle.engine_spec.specs.State.{EngineState}
 use Rattle.engine_spec.specs.Written.{Writes}
 use Rattle.engine_spec.proofs.Laying.{legal_size, page_at-length, IsWhole}
+use Rattle.engine_spec.proofs.Stamped.{laid_names}
 use Rattle.page_face.specs.declared.prepared.Prepared.{Prepared}
 use Rattle.page_face.specs.Prepared.{IsFit, change_in}
 use Rattle.laying.specs.Order.{in_order, images_of, page_numbers}
@@ -54,6 +55,14 @@ first_names size main older newer named long some =
   where
     nothing : (n : ℕ) → 0 * n ≡ 0
     nothing n = omega arith
+
+-- a database within the limit has fewer pages than four bytes count
+few_pages : (size bytes : ℕ) → 1 ≤ bytes → size * bytes ≤ database_limit → size < 2 ^ 32
+few_pages size zero some within = absurd (omega arith)
+few_pages size (suc more) some within = omega (arith, split size more, within)
+  where
+    split : (m n : ℕ) → m * suc n ≡ m + m * n
+    split m n = grind arith
 
 -- over a map whose page 1 names the page size
 module _ {M : Type 0} (kept : StoreData) (state : EngineState) (pin : Pin) (prepared : Prepared M) (plan : Plan) (first : List ℕ) (sized : state.page_size ≡ kept.page_size)
@@ -100,6 +109,16 @@ module _ {M : Type 0} (kept : StoreData) (state : EngineState) (pin : Pin) (prep
       ap (λ (size : ℕ). map_under (newest_in kept.pair (reads told)) images size) (sym sizes.count)
       ∙ laid_is (newest_in kept.pair (reads told)) (change_in prepared) plan.order.items first fit.fresh some fit.different least is.order laid_first
 
+  names_told : (told : History) → IsWholeStore kept → HasSizes (newest_in kept.pair (reads told)) kept.size kept.page_size
+      → first ≡ page_at (laid (newest_in kept.pair (reads told)) (change_in prepared)) 1
+      → (long : ℕ) → NamesPages long kept.page_size (map_under (newest_in kept.pair (reads told)) images kept.size)
+  names_told told whole sizes laid_first long =
+      let big : 100 ≤ kept.page_size = let least = legal_size kept.page_size whole.legal in omega arith in
+      let few : kept.size < 2 ^ 32 = few_pages kept.size kept.page_size (omega (arith, big)) whole.fits in
+      let count = sizes.count in
+      subst (λ (pages : PageMap). NamesPages long kept.page_size pages) (sym (lies_told told whole sizes laid_first))
+      (laid_names (newest_in kept.pair (reads told)) (change_in prepared) kept.size kept.page_size big is_whole (omega (arith, count)) sizes.each (omega (arith, count, few)) long kept.page_size)
+
   pub is_laid : (told : Option History) (readers : Readers) (pins : List Pin) (commit : Commit) → IsLiveStore told kept readers pins → AreNamed told kept readers
       → IfSome (newest_told kept told) (λ pages. first ≡ page_at (laid pages (change_in prepared)) 1) → commit.wrote ≡ plan.wrote → IsLaid kept told images (change_in prepared) commit
   is_laid told readers pins commit live named laid_first same = record {
@@ -108,6 +127,7 @@ module _ {M : Type 0} (kept : StoreData) (state : EngineState) (pin : Pin) (prep
     within = subst (λ (pages : List ℕ). All (λ page. (1 ≤ page) × (page ≤ kept.size)) pages) (sym (same ∙ is.wrote)) (numbers_within live.whole.some);
     fits = fits_by told live.whole named live.sizes laid_first;
     lies = lies_by told live.whole live.sizes laid_first;
+    names = names_by told live.whole live.sizes laid_first;
   }
     where
       fits_by : (told : Option History) → IsWholeStore kept → AreNamed told kept readers → IfSome (newest_told kept told) (λ pages. HasSizes pages kept.size kept.page_size)
@@ -121,3 +141,9 @@ module _ {M : Type 0} (kept : StoreData) (state : EngineState) (pin : Pin) (prep
           → IfSome told (λ told. map_under (newest_in kept.pair (reads told)) images kept.size ≡ laid (newest_in kept.pair (reads told)) (change_in prepared))
       lies_by None whole sizes laid_first = tt
       lies_by (Some told) whole sizes laid_first = lies_told told whole sizes laid_first
+
+      names_by : (told : Option History) → IsWholeStore kept → IfSome (newest_told kept told) (λ pages. HasSizes pages kept.size kept.page_size)
+          → IfSome (newest_told kept told) (λ pages. first ≡ page_at (laid pages (change_in prepared)) 1)
+          → IfSome told (λ told. (long : ℕ) → NamesPages long kept.page_size (map_under (newest_in kept.pair (reads told)) images kept.size))
+      names_by None whole sizes laid_first = tt
+      names_by (Some told) whole sizes laid_first = names_told told whole sizes laid_first

@@ -192,6 +192,7 @@ module _ (new_size : ℕ) (seen : SeenView) (whole : IsWholeSeen seen) (new_size
       size = seen.page_size;
       long = length files.main;
       map = map_found files;
+      own = is_ours_in files;
     }
 
     fits : IsEmpty (one_in files) (two_in files) files ⊎ ((100 ≤ seen.page_size) × (size_named files (one_in files) (two_in files) ≡ seen.page_size))
@@ -220,6 +221,8 @@ module _ (new_size : ℕ) (seen : SeenView) (whole : IsWholeSeen seen) (new_size
             main = b.opened.main;
             fits = b.opened.fits;
             is = refl;
+            sizes = b.opened.sizes;
+            keeps = (omega arith, λ is. inr is);
           };
           fewer = λ image left chance. (left, chance);
           whole = λ log there. b.whole log there;
@@ -242,14 +245,14 @@ module _ (new_size : ℕ) (seen : SeenView) (whole : IsWholeSeen seen) (new_size
         → Passes sure_view.opening (LeavesSettling sure_view later) (P sure_view later) (Some told) new
     sure_says P new fine may says =
         says sure_view (one_in files) (two_in files) ([], refl, sure_syncing fine)
-        (record { has_one = refl; has_two = refl; size = refl; long = refl; bare = bare_two may })
+        (record { has_one = refl; has_two = refl; size = refl; long = refl; bare = bare_two may; own = λ there ours. sym (s.ours there) ∙ ours })
 
     pub told_says : (P : OpeningView → PageMap → History → Type 0) (new : Option History) → MayOpen (size_opened new_size files) told → MaySettle files → Says P seen (Some told) new
         → Passes (opening_at told) (LeavesSettling (view_at seen.page_size told) later) (P (view_at seen.page_size told) later) (Some told) new
     told_says P new may settle says =
         says (view_at seen.page_size told) (one_in files) (two_in files)
         (since_begins seen.page_size told (subst (λ (n : ℕ). MayOpen n told) size_is may))
-        (record { has_one = refl; has_two = refl; size = refl; long = refl; bare = bare_two settle })
+        (record { has_one = refl; has_two = refl; size = refl; long = refl; bare = bare_two settle; own = λ there ours. sym (s.ours there) ∙ ours })
 
     -- said of what the disk told at the call
     pub as_opened : (Q : OpeningView → PageMap → History → Type 0) (new : Option History)
@@ -303,13 +306,13 @@ module _ (new_size most : ℕ) (seen : SeenView) (whole : IsWholeSeen seen) (new
   pub live_of : (old new : Option History) → IfSome old (λ told. IsSeen new_size (reads told) seen) → IfSome old (λ told. fault_of (reads told) false ≡ None) → IfSome old (λ told. MaySettle (reads told))
       → Says Ready seen old new → IsLiveAs new kept
   live_of None None s fine settle says =
-      let view : OpeningView = record { opening = record { start = nowhere; before = []; pieces = [] }; size = seen.page_size; long = 0; map = [] } in
+      let view : OpeningView = record { opening = record { start = nowhere; before = []; pieces = [] }; size = seen.page_size; long = 0; map = []; own = true } in
       live_with view [] None refl tt tt
     where
       nowhere : History
       nowhere = record { first = record { main = []; log1 = []; log2 = [] }; steps = [] }
   live_of None (Some new) s fine settle says =
-      absurd (says (record { opening = record { start = new; before = []; pieces = [] }; size = seen.page_size; long = 0; map = [] }) (record { frames = []; salt = 0; most = 0 }) (record { frames = []; salt = 0; most = 0 }) tt tt).each_moment
+      absurd (says (record { opening = record { start = new; before = []; pieces = [] }; size = seen.page_size; long = 0; map = []; own = true }) (record { frames = []; salt = 0; most = 0 }) (record { frames = []; salt = 0; most = 0 }) tt tt).each_moment
   live_of (Some told) new s fine settle says =
       let passes = sure_says new_size seen whole new_sized none told s Ready new fine settle says in
       live_with (sure_view new_size seen whole new_sized none told s) (later new_size seen whole new_sized none told s) new refl
@@ -342,9 +345,10 @@ module _ (new_size most : ℕ) (seen : SeenView) (whole : IsWholeSeen seen) (new
         size = seen.page_size;
         long = 0;
         map = [];
+        own = true;
       }
   from_of sound leads origin None (Some new) s fine says rests is =
-      absurd (says (record { opening = record { start = new; before = []; pieces = [] }; size = seen.page_size; long = 0; map = [] }) (record { frames = []; salt = 0; most = 0 }) (record { frames = []; salt = 0; most = 0 }) tt tt).each_moment
+      absurd (says (record { opening = record { start = new; before = []; pieces = [] }; size = seen.page_size; long = 0; map = []; own = true }) (record { frames = []; salt = 0; most = 0 }) (record { frames = []; salt = 0; most = 0 }) tt tt).each_moment
   from_of sound leads origin (Some told) new s fine says rests (settle, same, good) =
       let passes = sure_says new_size seen whole new_sized none told s Ready new fine settle says in
       let view = sure_view new_size seen whole new_sized none told s in

@@ -1,5 +1,5 @@
 -- A step of a checkpoint keeps the store, its maps and its pins, and at each moment of it a crash leaves one of its maps.
-use Rattle.std.proofs.Common.{◌≡◌, ◌≢◌, ◌∙◌, inl, inr, ℕ, false, List, ◌∷◌, refl, sym, ap, subst, arith, Option, Some, None}
+use Rattle.std.proofs.Common.{◌≡◌, ◌≢◌, ◌∙◌, inl, inr, ℕ, ◌≤◌, false, List, ◌∷◌, length, refl, sym, ap, subst, arith, Option, Some, None}
 use Rattle.std.specs.Prelude.{MatchOption, Contains, Result}
 use Rattle.std.specs.Option.{option_map}
 use Rattle.std.proofs.lemmas.Bool.{true≢false}
@@ -9,10 +9,13 @@ use Rattle.disk_face.specs.Files.{Files}
 use Rattle.disk_face.specs.Steps.{History, reads, further}
 use Rattle.page_spec.specs.PageMap.{PageMap}
 use Rattle.log_spec.specs.Accept.{Frame, last_size}
+use Rattle.crash_spec.specs.Logs.{IsOwnAt, Hands}
 use Rattle.crash_spec.specs.Moments.{AtEachMoment}
 use Rattle.crash_spec.specs.Opening.{Opening, grown, rebased}
 use Rattle.crash_spec.specs.Passes.{Passes}
 use Rattle.crash_spec.specs.Store.{StoreView, Holds, Leaves, named_size}
+use Rattle.crash_spec.specs.Recovered.{recovered}
+use Rattle.crash_spec.proofs.KnownFronts.{own_elsewhere}
 use Rattle.crash_spec.proofs.Passing.{passes_still, passes_weaker}
 use Rattle.crash_spec.proofs.Rebased.{rebased_reads}
 use Rattle.engine_spec.specs.declared.pins.Pin.{Pin}
@@ -21,12 +24,16 @@ use Rattle.engine_spec.specs.declared.pins.Readers.{Readers}
 use Rattle.engine_spec.specs.Leaves.{may_recover, kept_map, RecoversOneOf, LeavesOneOf, AtEach}
 use Rattle.wal_rules.specs.declared.state.LogState.{LogState}
 use Rattle.log_commit.specs.Commit.{map_under}
+use Rattle.log_commit.specs.GoesBy.{GoesBy}
+use Rattle.log_commit.proofs.Steps.{goes_one, goes_still}
 use Rattle.store_spec.specs.Store.{StoreData, KeptStop, current_read, other_read, newest_in, view_of, newest_told, stop_map, stop_told, store_state}
 use Rattle.store_spec.specs.Standing.{IsWholeStore, IsLiveStore, IsRunning, IsStoreOn, IsTornOn, StandsOn, IsOpenedAt}
 use Rattle.store_spec.specs.Steps.{HasTakenStep, stepped}
 use Rattle.store_spec.proofs.Taken.{Taken, Stays, Goes, taken, pages_are}
 use Rattle.store_spec.proofs.Copied.{StepsOn}
 use Rattle.store_spec.proofs.Standing.{newest_same, standing_stays}
+use Rattle.store_spec.proofs.EngineLaws.{maps_in, leaves_now}
+use Rattle.store_spec.proofs.OwnFronts.{HandsOwn, LeavesNamed, either_named, either_names, own_moments, own_of}
 
 module _ (kept : StoreData) (readers : Readers) (state : LogState) where
   -- The store stands since each opening since which it stood.
@@ -86,9 +93,11 @@ module _ (kept : StoreData) (readers : Readers) (state : LogState) where
       → (on : IsStoreOn opening kept (rebased opening.start since))
       → Passes opening (Leaves opening (view_of kept (reads (rebased opening.start since)) on.pending on.later))
       (Holds opening (view_of kept (reads (rebased opening.start since)) on.pending on.later)) (Some told) new
-      → AtEachMoment opening (RecoversOneOf opening (may_recover (store_state (Some told) faults kept readers))) (Some told) new
-  moments_stand opening told new faults since is on passes =
-      (passes_weaker opening (Leaves opening view) (RecoversOneOf opening (may_recover (store_state (Some told) faults kept readers))) (Holds opening view) (Holds opening view)
+      → GoesBy (HandsOwn kept.page_size (length (reads (rebased opening.start since)).main)) (Some told) new → AtEachMoment opening (RecoversOneOf opening (may_recover (store_state (Some told) faults kept readers))) (Some told) new
+  moments_stand opening told new faults since is on passes goes =
+      own_moments opening kept.page_size (length (reads (rebased opening.start since)).main) (may_recover (store_state (Some told) faults kept readers)) (Some told) new goes
+      (since, is, (own_of opening kept (rebased opening.start since) (inl on), omega arith))
+      (passes_weaker opening (Leaves opening view) (LeavesNamed opening (may_recover (store_state (Some told) faults kept readers)) kept.page_size (length (reads here).main)) (Holds opening view) (Holds opening view)
       each (λ t h. h) (Some told) new passes).each_moment
     where
       here : History
@@ -101,14 +110,17 @@ module _ (kept : StoreData) (readers : Readers) (state : LogState) where
       same = ap (λ (files : Files). newest_in kept.pair files) (sym (rebased_reads opening.start since) ∙ ap reads (sym is))
 
       each : (t : History) (image : Files) → Leaves opening (view_of kept (reads (rebased opening.start since)) on.pending on.later) t image
-          → RecoversOneOf opening (may_recover (store_state (Some told) faults kept readers)) t image
-      each t image leaves chance =
-          elim (leaves chance) [
-            | inl old ↦ (0, omega arith, sym (old ∙ same))
-            | inr (some, late) ↦
-                subst (λ (pages : PageMap). Contains (newest_in kept.pair (reads told) ∷ kept_map (option_map (stop_told kept (Some told)) kept.stop)) pages) (sym late)
-                (one_of opening here told on.pending on.later kept.stop same on.running some)
-          ]
+          → LeavesNamed opening (may_recover (store_state (Some told) faults kept readers)) kept.page_size (length (reads here).main) t image
+      each t image leaves chance = (
+        elim (leaves chance) [
+          | inl old ↦ (0, omega arith, sym (old ∙ same))
+          | inr (some, late) ↦
+              subst (λ (pages : PageMap). Contains (newest_in kept.pair (reads told) ∷ kept_map (option_map (stop_told kept (Some told)) kept.stop)) pages) (sym late)
+              (one_of opening here told on.pending on.later kept.stop same on.running some)
+        ],
+        either_named opening kept here on (recovered image) (leaves chance),
+        either_names opening kept here on (recovered image) (leaves chance),
+      )
 
   -- what a crash leaves now is one of these maps, and so it is where nothing changed
   moments_still : (opening : Opening) (told : History) (faults : ℕ) (since : List Step) → told ≡ grown since opening.start → IsTornOn opening kept (rebased opening.start since)
@@ -119,15 +131,21 @@ module _ (kept : StoreData) (readers : Readers) (state : LogState) where
       maps : List PageMap
       maps = may_recover (store_state (Some told) faults kept readers)
 
-      same : newest_in kept.pair (reads (rebased opening.start since)) ≡ newest_in kept.pair (reads told)
-      same = ap (λ (files : Files). newest_in kept.pair files) (sym (rebased_reads opening.start since) ∙ ap reads (sym is))
-
       each : LeavesOneOf opening (may_recover (store_state (Some told) faults kept readers)) (rebased opening.start since)
       each image left chance =
-          elim (torn.torn.leaves image left chance) [
-            | inl old ↦ (0, omega arith, sym (old ∙ same))
-            | inr (some, late) ↦ absurd (some refl)
-          ]
+          let leaves = leaves_now opening kept (rebased opening.start since) (inr torn) image left chance in (
+            subst (λ (files : Files). Contains (maps_in kept files) (recovered image)) (sym (rebased_reads opening.start since) ∙ ap reads (sym is)) leaves.0,
+            leaves.1,
+            leaves.2,
+          )
+
+  -- a step hands no header to a write, and writes Main no further than to its end
+  step_goes : (told here : History) (new : Option History) → reads here ≡ reads told → Taken kept readers state (Some told) new
+      → GoesBy (HandsOwn kept.page_size (length (reads here).main)) (Some told) new
+  step_goes told here new is (Stays still same) = goes_still (HandsOwn kept.page_size (length (reads here).main)) (Some told) new same
+  step_goes told here new is (Goes step same unfinished free current goes) =
+      let on = goes told here refl is in
+      goes_one (HandsOwn kept.page_size (length (reads here).main)) step (Some told) new (own_elsewhere kept.page_size step on.log1 on.log2, on.ends) same
 
   moments_step : (result : Result Ckpt Failed) (old new : Option History) (opening : Opening) (faults : ℕ) → IsWholeStore kept → HasTakenStep kept readers result state old new
       → Taken kept readers state old new → IsOpenedAt opening kept old → AtEachMoment opening (RecoversOneOf opening (may_recover (store_state old faults kept readers))) old new
@@ -138,7 +156,7 @@ module _ (kept : StoreData) (readers : Readers) (state : LogState) where
   moments_step result (Some told) new opening faults whole has took (since, is, inl on) =
       moments_stand opening told new faults since is on
       (has.moments opening (view_of kept (reads (rebased opening.start since)) on.pending on.later) (since, is, on.holds) refl
-      (on.there.other_pages ∙ sym (pages_are kept whole)))
+      (on.there.other_pages ∙ sym (pages_are kept whole))) (step_goes told (rebased opening.start since) new (sym (rebased_reads opening.start since) ∙ ap reads (sym is)) took)
   moments_step result (Some told) new opening faults whole has (Stays same still) (since, is, inr torn) =
       subst (λ (t : Option History). AtEachMoment opening (RecoversOneOf opening (may_recover (store_state (Some told) faults kept readers))) (Some told) t) (sym still)
       (moments_still opening told faults since is torn)

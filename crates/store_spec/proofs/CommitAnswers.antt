@@ -61,9 +61,12 @@ still_moments kept none opening None opened = tt
 still_moments kept none opening (Some told) opened =
     (passes_still opening (RecoversOneOf opening (newest_in kept.pair (reads told) ∷ [])) (λ t. StandsOn opening kept t × (reads t ≡ reads told))
     (λ t (stands, same) image left chance.
-    subst (λ (files : Files). Contains (newest_in kept.pair files ∷ []) (recovered image)) same
-    (subst (λ (stop : Option KeptStop). Contains (newest_in kept.pair (reads t) ∷ kept_map (option_map (place_in kept (reads t)) stop)) (recovered image)) none
-    (leaves_now opening kept t stands image left chance))) (Some told) (since_told opening.start (StandsOn opening kept) told opened)).each_moment
+    let leaves = leaves_now opening kept t stands image left chance in (
+      subst (λ (files : Files). Contains (newest_in kept.pair files ∷ []) (recovered image)) same
+          (subst (λ (stop : Option KeptStop). Contains (newest_in kept.pair (reads t) ∷ kept_map (option_map (place_in kept (reads t)) stop)) (recovered image)) none leaves.0),
+      leaves.1,
+      leaves.2,
+    )) (Some told) (since_told opening.start (StandsOn opening kept) told opened)).each_moment
 
 pub readied_still : (kept : StoreData) (readers : Readers) (old : Option History) → kept.stop ≡ None → may_switch (two_logs kept) readers kept.history ≡ false → IsReadied kept kept readers old old
 readied_still kept readers old none stays = record {
@@ -84,8 +87,13 @@ at_wider : (opening : Opening) (maps more : List PageMap) (old new : Option Hist
 at_wider opening maps more None None each = tt
 at_wider opening maps more None (Some new) each = absurd each
 at_wider opening maps more (Some old) None each = absurd each
-at_wider opening maps more (Some old) (Some new) (since, steps, is, same, all) =
-    (since, steps, is, same, λ ago most image left chance. Contains-append_left maps more (recovered image) (all ago most image left chance))
+at_wider opening maps more (Some old) (Some new) (since, steps, is, same, all) = (
+  since,
+  steps,
+  is,
+  same,
+  λ ago most image left chance. let leaves = all ago most image left chance in (Contains-append_left maps more (recovered image) leaves.0, leaves.1, leaves.2),
+)
 
 -- the maps that a commit may leave
 abbrev both_maps : Option PageMap → Change → List PageMap

@@ -7,11 +7,12 @@ use Rattle.disk_face.specs.Files.{Files}
 use Rattle.disk_face.specs.Steps.{History, reads}
 use Rattle.page_spec.specs.PageMap.{PageMap}
 use Rattle.log_spec.specs.Accept.{Frame, page_numbers}
-use Rattle.crash_spec.specs.Logs.{IsWhole}
+use Rattle.crash_spec.specs.Known.{known_pieces}
+use Rattle.crash_spec.specs.Logs.{IsWhole, IsOwnAt}
 use Rattle.crash_spec.specs.Moments.{AtEachMoment}
 use Rattle.crash_spec.specs.Opening.{Opening, Since, grown}
 use Rattle.crash_spec.specs.Passes.{Passes, ByAnswer}
-use Rattle.crash_spec.specs.Recovered.{recovered}
+use Rattle.crash_spec.specs.Recovered.{recovered, NamesPages}
 use Rattle.crash_spec.proofs.Passing.{passes_weaker}
 use Rattle.engine_spec.specs.declared.commits.Commit.{Commit}
 use Rattle.engine_spec.specs.declared.commits.PageImage.{PageImage}
@@ -29,15 +30,17 @@ use Rattle.store_spec.specs.Store.{StoreData, KeptStop, current_read, other_read
 use Rattle.store_spec.specs.Standing.{IsStoreOn, StandsOn, IsOpenedAt}
 use Rattle.store_spec.specs.Steps.{HasWritten, HasIndexed, committed, stopped}
 use Rattle.store_spec.proofs.FramesStand.{since_told, at_told}
+use Rattle.store_spec.proofs.OwnFronts.{IsOwnTill, LeavesNamed, NamesOwn, commit_goes, named_under, newest_named, newest_names, own_moments, own_of}
 use Rattle.store_spec.proofs.Writing.{IsPairOf, pair_more, pair_appended, now_view, running_on, stands_as, IsBeside, beside, current_after, other_after, newest_after, on_committed, current_stays, other_stays, newest_stays, on_stopped}
 
--- The images are the pages of the commit, and make of the newest map what laying the change makes of it.
+-- The images are the pages of the commit, and make of the newest map what laying the change makes of it, whose page 1 names its pages.
 pub record IsLaid (kept : StoreData) (old : Option History) (images : List PageImage) (change : Change) (commit : Commit) : Type 0 where
   pub numbers : commit.wrote ≡ map (λ image. image.page) images
   pub first : Contains commit.wrote 1
   pub within : All (λ page. (1 ≤ page) × (page ≤ kept.size)) commit.wrote
   pub fits : IfSome old (λ told. FitsMap (view_of kept (reads told) [] (newest_in kept.pair (reads told))) images kept.size)
   pub lies : IfSome old (λ told. map_under (newest_in kept.pair (reads told)) images kept.size ≡ laid (newest_in kept.pair (reads told)) change)
+  pub names : IfSome old (λ told. (long : ℕ) → NamesPages long kept.page_size (map_under (newest_in kept.pair (reads told)) images kept.size))
 
 -- A store that can be written to: nothing has failed, one of the logs is current, and its first salt is one of 32 bits.
 pub record MayWriteOn (kept : StoreData) : Type 0 where
@@ -105,10 +108,10 @@ module _ (opening : Opening) (kept : StoreData) (images : List PageImage) (pair 
       let synced = has.synced refl in
       whole_since opening (StandsOn opening kept) (IsCommitStep (current_file kept.pair) (current_header kept.pair)) (current_file kept.pair) (Some told) synced.0 new synced.1 synced.2 opened
 
-  done_opened : IsOpenedAt opening (committed kept pair index commit) new
-  done_opened =
+  done_opened : ((long : ℕ) → NamesPages long kept.page_size Made) → IsOpenedAt opening (committed kept pair index commit) new
+  done_opened names =
       since_weaker opening.start (λ t. IsDone t × IsWhole opening t (current_file kept.pair)) (StandsOn opening (committed kept pair index commit))
-      (λ t done. inl (on_committed opening kept pair index commit (reads told) has.more Made t may.running same_pair indexed numbers done.0.0 done.0.1 done.1)) new
+      (λ t done. inl (on_committed opening kept pair index commit (reads told) has.more Made t may.running same_pair indexed numbers done.0.0 done.0.1 done.1 names)) new
       (since_both opening.start IsDone (λ t. IsWhole opening t (current_file kept.pair)) new is_done done_whole)
 
   -- what is read then
@@ -152,10 +155,16 @@ module _ (opening : Opening) (kept : StoreData) (images : List PageImage) (pair 
   pub still_pair : IsPairOf kept.pair pair × ((log_of pair pair.current).frames ≡ (log_of kept.pair kept.pair.current).frames)
   still_pair = pair_appended kept.pair pair has.writes.becomes
 
-  way_opened : stop.images ≡ images → stop.size ≡ kept.size → IsOpenedAt opening (stopped kept pair stop) new
-  way_opened is_images is_size =
+  -- the newest map names its pages
+  newest_told_names : NamesPages (length (reads told).main) kept.page_size (newest_in kept.pair (reads told))
+  newest_told_names =
+      at_told opening.start (StandsOn opening kept) (λ files. NamesPages (length files.main) kept.page_size (newest_in kept.pair files)) told
+      (λ t stands. newest_names opening kept t stands (length (reads t).main) (omega arith)) opened
+
+  way_opened : stop.images ≡ images → stop.size ≡ kept.size → ((long : ℕ) → NamesPages long kept.page_size Coming) → IsOpenedAt opening (stopped kept pair stop) new
+  way_opened is_images is_size names =
       since_weaker opening.start IsOnWay (StandsOn opening (stopped kept pair stop))
-      (λ t way. inl (on_stopped opening kept pair stop (reads told) Coming t still_pair.0 still_pair.1 way.0 way.1 (λ i. map_under (newest_in kept.pair (reads told)) (sym is_images i) (sym is_size i)))) new on_way
+      (λ t way. inl (on_stopped opening kept pair stop (reads told) Coming t still_pair.0 still_pair.1 way.0 way.1 (λ i. map_under (newest_in kept.pair (reads told)) (sym is_images i) (sym is_size i)) newest_told_names names)) new on_way
 
   module _ (later : History) (is : new ≡ Some later) where
     pub way_then : Since opening.start IsOnWay (Some later)
@@ -192,14 +201,18 @@ module _ (kept : StoreData) (images : List PageImage) (pair : PairView) (change 
   either_map ok None new faults readers has lays opening opened =
       subst (λ (t : Option History). AtEachMoment opening (RecoversOneOf opening (may_recover (store_state None faults kept readers) ++ if_told (map_after (store_state None faults kept readers) change))) None t) (sym has.steps) tt
   either_map ok (Some told) new faults readers has lays opening opened =
-      (passes_weaker opening (LeavesEither opening (newest_in kept.pair (reads told)) (map_under (newest_in kept.pair (reads told)) images kept.size)) (RecoversOneOf opening maps)
+      own_moments opening kept.page_size end maps (Some told) new (commit_goes kept.page_size end kept.pair.current (current_header kept.pair) (Some told) new has.steps)
+      (since_weaker opening.start (λ t. StandsOn opening kept t × (reads t ≡ reads told)) (IsOwnTill opening kept.page_size end)
+      (λ t (stands, same). (own_of opening kept t stands, (let long = ap (λ (files : Files). length files.main) same in omega (arith, long))))
+      (Some told) (since_told opening.start (StandsOn opening kept) told opened))
+      (passes_weaker opening (LeavesEither opening (newest_in kept.pair (reads told)) (map_under (newest_in kept.pair (reads told)) images kept.size)) (LeavesNamed opening maps kept.page_size end)
       (ByAnswer ok (IsCommittedTo opening (now_view kept (reads told)) pair has.more (map_under (newest_in kept.pair (reads told)) images kept.size)) (MayCome opening (now_view kept (reads told)) (map_under (newest_in kept.pair (reads told)) images kept.size)))
       (λ t. Unit {0})
-      (λ t image leaves chance. subst (λ (ms : List PageMap). Contains ms (recovered image)) (sym maps_are) (elim (leaves chance) [
-        | inl same ↦ (0, omega arith, sym same)
-        | inr same ↦ (1, omega arith, sym (same ∙ lays.lies))
-      ])) (λ t any. tt) (Some told) new (passes opening kept ok images pair told new may has lays.fits opened)).each_moment
+      (λ t image leaves chance. either (recovered image) (leaves chance)) (λ t any. tt) (Some told) new (passes opening kept ok images pair told new may has lays.fits opened)).each_moment
     where
+      end : ℕ
+      end = length (reads told).main
+
       maps : List PageMap
       maps = may_recover (store_state (Some told) faults kept readers) ++ if_told (map_after (store_state (Some told) faults kept readers) change)
 
@@ -207,18 +220,36 @@ module _ (kept : StoreData) (images : List PageImage) (pair : PairView) (change 
           ≡ newest_in kept.pair (reads told) ∷ laid (newest_in kept.pair (reads told)) change ∷ []
       maps_are = ap (λ (stop : Option KeptStop). (newest_in kept.pair (reads told) ∷ kept_map (option_map (stop_told kept (Some told)) stop)) ++ laid (newest_in kept.pair (reads told)) change ∷ []) may.running
 
+      either : (got : PageMap) → (got ≡ newest_in kept.pair (reads told)) ⊎ (got ≡ map_under (newest_in kept.pair (reads told)) images kept.size)
+          → Contains (may_recover (store_state (Some told) faults kept readers) ++ if_told (map_after (store_state (Some told) faults kept readers) change)) got × NamesOwn kept.page_size got
+          × ((long : ℕ) → long ≤ length (reads told).main → NamesPages long kept.page_size got)
+      either got (inl same) = (
+        subst (λ (ms : List PageMap). Contains ms got) (sym maps_are) (0, omega arith, sym same),
+        subst (λ (pages : PageMap). NamesOwn kept.page_size pages) (sym same)
+            (at_told opening.start (StandsOn opening kept) (λ files. NamesOwn kept.page_size (newest_in kept.pair files)) told (newest_named opening kept) opened),
+        λ long le. subst (λ (pages : PageMap). NamesPages long kept.page_size pages) (sym same)
+            (at_told opening.start (StandsOn opening kept) (λ files. long ≤ length files.main → NamesPages long kept.page_size (newest_in kept.pair files)) told
+            (λ t stands. newest_names opening kept t stands long) opened le),
+      )
+      either got (inr same) = (
+        subst (λ (ms : List PageMap). Contains ms got) (sym maps_are) (1, omega arith, sym (same ∙ lays.lies)),
+        subst (λ (pages : PageMap). NamesOwn kept.page_size pages) (sym same)
+            (named_under kept.page_size (newest_in kept.pair (reads told)) images kept.size lays.fits.named),
+        λ long le. subst (λ (pages : PageMap). NamesPages long kept.page_size pages) (sym same) (lays.names long),
+      )
+
   -- the openings go on
   pub opened_committed : (index : Indexed) (old new : Option History) → HasWritten kept true images pair old new → IsLaid kept old images change commit → HasIndexed kept commit index
       → (opening : Opening) → IsOpenedAt opening kept old → IsOpenedAt opening (committed kept pair index commit) new
   opened_committed index None new has lays indexed opening opened = subst (IsOpenedAt opening (committed kept pair index commit)) (sym has.steps) tt
   opened_committed index (Some told) new has lays indexed opening opened =
-      done_opened opening kept images pair index commit told new may has lays.fits indexed (more_numbers (Some told) new has lays) opened
+      done_opened opening kept images pair index commit told new may has lays.fits indexed (more_numbers (Some told) new has lays) opened lays.names
 
   pub opened_stopped : (stop : KeptStop) (old new : Option History) → HasWritten kept false images pair old new → IsLaid kept old images change commit → stop.images ≡ images → stop.size ≡ kept.size
       → (opening : Opening) → IsOpenedAt opening kept old → IsOpenedAt opening (stopped kept pair stop) new
   opened_stopped stop None new has lays is_images is_size opening opened = subst (IsOpenedAt opening (stopped kept pair stop)) (sym has.steps) tt
   opened_stopped stop (Some told) new has lays is_images is_size opening opened =
-      way_opened opening kept images pair stop told new may has lays.fits opened is_images is_size
+      way_opened opening kept images pair stop told new may has lays.fits opened is_images is_size lays.names
 
   -- what is told then
   pub newest_committed : (index : Indexed) (old new : Option History) → HasWritten kept true images pair old new → IsLaid kept old images change commit → HasIndexed kept commit index

@@ -1,5 +1,5 @@
 -- A page that the other log holds is written to Main, a write of it is refused, or Main is synced: what that leaves of what stands on the logs.
-use Rattle.std.proofs.Common.{◌≡◌, ◌≢◌, ◌∙◌, ◌⊎◌, inl, inr, ℕ, suc, ◌-◌, ◌*◌, ◌≤◌, ◌==◌, if◌then◌else◌, Bool, true, false, List, [], ◌∷◌, length, take, drop, refl, sym, ap, subst, arith}
+use Rattle.std.proofs.Common.{◌≡◌, ◌≢◌, ◌∙◌, ◌⊎◌, inl, inr, ℕ, suc, ◌+◌, ◌-◌, ◌*◌, ◌≤◌, ◌==◌, if◌then◌else◌, Bool, true, false, List, [], ◌∷◌, length, take, drop, refl, sym, ap, subst, arith}
 use Rattle.std.specs.Prelude.{Contains}
 use Rattle.std.proofs.lemmas.Bool.{cases_lt, true≢false}
 use Rattle.std.proofs.lemmas.Bool.Decides.{Decides-eqb}
@@ -19,6 +19,7 @@ use Rattle.crash_spec.specs.Recovered.{main_page, page_after_frames, overlaid, s
 use Rattle.crash_spec.specs.Store.{Holds, named_size}
 use Rattle.crash_spec.proofs.Copying.{page_stays, first_stays, copy_holds, refused_holds, synced_holds}
 use Rattle.crash_spec.proofs.Elsewhere.{whole_synced}
+use Rattle.crash_spec.proofs.NamedPages.{EndsBy}
 use Rattle.crash_spec.proofs.Overlaid.{overlaid_outside, firsts_outside}
 use Rattle.crash_spec.proofs.Overwritten.{overwritten-length}
 use Rattle.wal_index.specs.Frames.{IsNextPage}
@@ -72,6 +73,7 @@ pub record StepsOn (kept : StoreData) (state : LogState) (told : History) (step 
   pub log1 : IsElsewhere Log1 step
   pub log2 : IsElsewhere Log2 step
   pub longer : length (reads told).main ≤ length (reads (further step told)).main
+  pub ends : EndsBy (length (reads told).main) step
   pub maps : (newer : List Frame) → named_size (reads told).main (other_read kept.pair (reads told)) newer ≡ kept.page_size
       → (overlaid (reads (further step told)).main (other_read kept.pair (reads told)) newer ≡ overlaid (reads told).main (other_read kept.pair (reads told)) newer)
       × (named_size (reads (further step told)).main (other_read kept.pair (reads told)) newer ≡ kept.page_size)
@@ -88,6 +90,7 @@ pub record IsCopyable (kept : StoreData) (files : Files) (page : ℕ) : Type 0 w
   pub next : IsNextPage (page_numbers (other_read kept.pair files)) kept.state.copied page
   pub some : 100 ≤ kept.page_size
   pub reached : (page - 1) * kept.page_size ≤ length files.main
+  pub inside : (page - 1) * kept.page_size + kept.page_size ≤ length files.main
 
 module _ (kept : StoreData) (told : History) (page : ℕ) (may : IsCopyable kept (reads told) page) where
   abbrev size : ℕ
@@ -123,6 +126,7 @@ module _ (kept : StoreData) (told : History) (page : ℕ) (may : IsCopyable kept
     log1 = refl;
     log2 = refl;
     longer = overwritten-length ((page - 1) * size) bytes main may.reached;
+    ends = λ is. (let whole = may.inside in omega (arith, whole, long));
     maps = λ newer sized. (
       map_stays size page from may.some main bytes (omega arith) may.reached other newer may.next.there sized,
       name_stays size page from may.some main bytes (omega arith) may.reached other newer may.next.there sized,
@@ -161,6 +165,7 @@ module _ (kept : StoreData) (told : History) (page : ℕ) (may : IsCopyable kept
     log1 = refl;
     log2 = refl;
     longer = overwritten-length ((page - 1) * size) left main may.reached;
+    ends = λ is. (let whole = may.inside in omega (arith, whole, long, within));
     maps = λ newer sized. (
       map_stays size page from may.some main left (omega arith) may.reached other newer may.next.there sized,
       name_stays size page from may.some main left (omega arith) may.reached other newer may.next.there sized,
@@ -186,6 +191,7 @@ steps_synced kept told unfinished all = record {
   log1 = tt;
   log2 = tt;
   longer = omega arith;
+  ends = tt;
   maps = λ newer sized. (refl, sized);
   copied = λ copied number one low.
       elim (cases_lt kept.state.copied number) [

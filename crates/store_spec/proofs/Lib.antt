@@ -3,6 +3,7 @@ pub mod Counting
 pub mod Runs
 pub mod Pinning
 pub mod Reading
+pub mod OwnFronts
 pub mod Copied
 pub mod Taken
 pub mod Standing

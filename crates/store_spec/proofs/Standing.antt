@@ -1,7 +1,8 @@
 -- A store stands on its disk after a step of a checkpoint as before it.
-use Rattle.std.proofs.Common.{◌≡◌, ◌∙◌, inl, inr, ℕ, ◌≤◌, ◌==◌, if◌then◌else◌, Bool, true, false, List, [], ◌++◌, length, take, drop, sym, ap, subst, Option, Some, None}
+use Rattle.std.proofs.Common.{◌≡◌, ◌∙◌, inl, inr, ℕ, ◌≤◌, arith, ◌==◌, if◌then◌else◌, Bool, true, false, List, [], ◌∷◌, ◌++◌, length, take, drop, sym, ap, subst, Option, Some, None}
 use Rattle.std.specs.Prelude.{MatchOption}
 use Rattle.std.proofs.lemmas.Bool.{true≢false}
+use Rattle.std.proofs.lemmas.List.Elements.{All-cons, All-nil}
 use Rattle.disk_face.specs.declared.disk.File.{File}
 use Rattle.disk_face.specs.declared.disk.File.TheVariants.{Log1, Log2}
 use Rattle.disk_face.specs.declared.step.Step.{Step}
@@ -15,9 +16,10 @@ use Rattle.crash_spec.specs.Elsewhere.{IsElsewhere}
 use Rattle.crash_spec.specs.Known.{known_pieces}
 use Rattle.crash_spec.specs.Logs.{IsOnlyHeader}
 use Rattle.crash_spec.specs.Opening.{Opening}
-use Rattle.crash_spec.specs.Recovered.{main_page, page_after_frames, overlaid}
+use Rattle.crash_spec.specs.Recovered.{main_page, page_after_frames, overlaid, NamesPages}
 use Rattle.crash_spec.specs.Store.{StoreView, Holds, named_size}
 use Rattle.crash_spec.proofs.Elsewhere.{content_elsewhere, on_elsewhere, whole_elsewhere, only_elsewhere, behind_elsewhere, ours_elsewhere}
+use Rattle.crash_spec.proofs.NamedPages.{EndsBy, main_within}
 use Rattle.wal_frames.specs.Found.{log_file}
 use Rattle.wal_rules.specs.declared.state.LogState.{LogState}
 use Rattle.log_pair.specs.Pair.{log_of, other_number, current_file, current_header}
@@ -131,9 +133,19 @@ module _ (kept : StoreData) (state : LogState) (told : History) (step : Step) (s
     most1 = fronts.most1;
     most2 = fronts.most2;
     few = fronts.few;
+    sizes = fronts.sizes;
     log1 = front_stays opening Log1 kept.pair.one.header.salt1 fronts.most1 s.log1 fronts.log1;
     log2 = front_stays opening Log2 kept.pair.two.header.salt1 fronts.most2 s.log2 fronts.log2;
   }
+
+  -- Main stays as long as it is
+  pub long_same : length (reads (further step told)).main ≡ length (reads told).main
+  long_same =
+      let longer = s.longer in
+      let shorter : length (reads (further step told)).main ≤ length (reads told).main =
+      main_within (length (reads told).main) told.first told.steps (step ∷ [])
+      (All-cons (EndsBy (length (reads told).main)) step [] s.ends (All-nil (EndsBy (length (reads told).main)))) (omega arith) in
+      omega (arith, longer, shorter)
 
   store_stays : (opening : Opening) → IsStoreOn opening kept told → IsStoreOn opening (stepped kept state) later
   store_stays opening on =
@@ -155,6 +167,9 @@ module _ (kept : StoreData) (state : LogState) (told : History) (step : Step) (s
         other_whole = whole_elsewhere opening (other_file kept.pair) step told (log_apart (other_number kept.pair.current)) on.other_whole;
         main_whole = s.whole opening;
         fronts = fronts_stay opening on.fronts;
+        names = subst (λ (pages : PageMap). NamesPages (length (reads later).main) kept.page_size pages) (sym same)
+            (subst (λ (long : ℕ). NamesPages long kept.page_size (newest_in kept.pair (reads told))) (sym long_same) on.names);
+        later_names = on.later_names;
       }
 
   pub standing_stays : (opening : Opening) → StandsOn opening kept told → StandsOn opening (stepped kept state) (further step told)

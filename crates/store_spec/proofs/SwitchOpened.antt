@@ -1,11 +1,12 @@
 -- Since an opening the files hold the store that has gone over to its other log, or the one that failed in that.
-use Rattle.std.proofs.Common.{◌≡◌, ◌∙◌, ℕ, ◌+◌, ◌%◌, ◌^◌, ◌≤◌, ◌==◌, Bool, true, false, if◌then◌else◌, List, [], length, take, refl, sym, ap, subst, inl, inr, arith, Contains, Option, Some, None}
+use Rattle.std.proofs.Common.{◌≡◌, ◌∙◌, ℕ, ◌+◌, ◌%◌, ◌^◌, ◌≤◌, ◌==◌, Bool, true, false, if◌then◌else◌, List, [], length, take, refl, sym, ap, subst, inl, inr, arith, All, Contains, Option, Some, None}
 use Rattle.std.specs.Prelude.{IfSome, MatchOption, ◌⊎◌}
 use Rattle.std.specs.List.{concat}
 use Rattle.disk_face.specs.declared.disk.File.{File}
 use Rattle.disk_face.specs.declared.disk.File.TheVariants.{Log1, Log2}
 use Rattle.disk_face.specs.declared.step.Step.TheVariants.{Wrote, Synced}
 use Rattle.disk_face.specs.Files.{Files}
+use Rattle.page_spec.specs.PageMap.{PageMap}
 use Rattle.disk_face.specs.Steps.{History, reads, further}
 use Rattle.log_spec.specs.Checksum.{Sum}
 use Rattle.log_spec.specs.LogHeader.{LogFields, IsOurs}
@@ -13,9 +14,10 @@ use Rattle.log_spec.specs.Accept.{Frame, AreThere, last_size, page_numbers}
 use Rattle.log_spec.specs.Written.{IsHeaderOf}
 use Rattle.crash_spec.specs.Elsewhere.{IsElsewhere}
 use Rattle.crash_spec.specs.Marks.{number_of}
-use Rattle.crash_spec.specs.Logs.{IsWhole, IsOnDisk}
+use Rattle.crash_spec.specs.Known.{known_pieces}
+use Rattle.crash_spec.specs.Logs.{IsWhole, IsOnDisk, IsOwnAt}
 use Rattle.crash_spec.specs.Opening.{Opening, Since, rebased}
-use Rattle.crash_spec.specs.Recovered.{main_page, page_after_frames}
+use Rattle.crash_spec.specs.Recovered.{main_page, page_after_frames, NamesPages}
 use Rattle.crash_spec.specs.Store.{StoreView, Holds, IsCopied, named_size}
 use Rattle.crash_spec.proofs.Elsewhere.{whole_elsewhere, whole_synced}
 use Rattle.crash_spec.proofs.Rebased.{rebased_reads}
@@ -33,6 +35,7 @@ use Rattle.log_commit.proofs.SinceSteps.{since_both}
 use Rattle.store_spec.specs.Store.{StoreData, KeptStop, current_read, other_read, newest_in, view_of}
 use Rattle.store_spec.specs.Steps.{HasCleared, HasSwitched, gone_over, stopped}
 use Rattle.store_spec.specs.Standing.{IsWholeStore, AreThereBoth, AreFronts, IsRunning, IsStoreOn, IsTornOn, StandsOn, IsOpenedAt}
+use Rattle.store_spec.proofs.OwnFronts.{not_main, own_of, own_since, own_header, size_of_either, switch_goes}
 use Rattle.store_spec.proofs.Switching.{IsAllowed, other_file_is, other_number_is, on_of, running_of, has_first, goes_over}
 use Rattle.store_spec.proofs.Switched.{FrontAlone, BothTold, other_apart, put_front, switch_keeps, current_alone, other_alone, newest_alone, other_of_other, new_header_is, new_none, back_log_is, back_file_is, old_all, newest_over}
 
@@ -124,12 +127,19 @@ module _ (opening : Opening) (kept : StoreData) (readers : Readers) (told : Hist
           most1 = sides.0;
           most2 = sides.1;
           few = (omega (arith, sides.2, ap (λ (h : LogFields). h.generation) (new_header_is kept.pair header)), omega (arith, sides.3, ap (λ (h : LogFields). h.generation) (new_header_is kept.pair header)));
+          sizes = sizes_then (kept.pair.current == 1) (size_of_either opening kept told on.fronts kept.pair.current);
           log1 = sides.4;
           log2 = sides.5;
         }
       where
         new : LogView
         new = record { header = header; frames = 0 }
+
+        sizes_then : (first : Bool) → header.page_size ≡ kept.page_size
+            → ((if (if first then 2 else 1) == 1 then new else kept.pair.one).header.page_size ≡ kept.page_size)
+            × ((if (if first then 2 else 1) == 1 then kept.pair.two else new).header.page_size ≡ kept.page_size)
+        sizes_then true is = (on.fronts.sizes.0, is)
+        sizes_then false is = (is, on.fronts.sizes.1)
 
         by : (first : Bool) → IsOurs (number_of (log_file (if first then 2 else 1))) bytes
             → header.salt1 ≡ ((log_of kept.pair (if first then 2 else 1)).header.salt1 + 1) % 2 ^ 32
@@ -174,6 +184,9 @@ module _ (opening : Opening) (kept : StoreData) (readers : Readers) (told : Hist
           (whole_elsewhere opening (current_file kept.pair) (Wrote (front_piece (other_file kept.pair) bytes)) told current_is_elsewhere (running_of opening kept told none on).whole));
       main_whole = λ done. absurd cc;
       fronts = fronts_then;
+      names = subst (λ (pages : PageMap). NamesPages (length (reads later).main) kept.page_size pages) (sym newest_same)
+          (subst (λ (main : List ℕ). NamesPages (length main) kept.page_size (newest_in kept.pair (reads told))) (sym alone.main) on.names);
+      later_names = λ some. absurd (some refl);
     }
 
   -- Or that failed.
@@ -197,8 +210,16 @@ module _ (opening : Opening) (kept : StoreData) (readers : Readers) (told : Hist
           (sym alone.main) (on.there.copied number from is));
     }
 
-    pub store_torn : MayBeTorn opening (view_of kept (reads told) on.pending on.later) later → IsTornOn opening (stopped kept kept.pair stop) later
-    store_torn torn = record {
+    pub store_torn : MayBeTorn opening (view_of kept (reads told) on.pending on.later) later → All (IsOwnAt kept.page_size) (known_pieces opening later)
+        → IsTornOn opening (stopped kept kept.pair stop) later
+    store_torn torn own = record {
+      some_size = on.holds.on.some_size;
+      sized =
+          (λ i. named_size (alone.main i) (other_alone kept.pair (reads told) (reads later) alone i) (current_alone kept.pair (reads told) (reads later) alone i))
+          ∙ on.holds.sized;
+      own = own;
+      names = subst (λ (pages : PageMap). NamesPages (length (reads later).main) kept.page_size pages) (sym (newest_alone kept.pair (reads told) (reads later) alone))
+          (subst (λ (main : List ℕ). NamesPages (length main) kept.page_size (newest_in kept.pair (reads told))) (sym alone.main) on.names);
       there = there_torn;
       torn = record {
         newest = subst (λ (frames : List Frame). IsOnDisk opening later (current_file kept.pair) (current_header kept.pair) frames []) (sym (current_alone kept.pair (reads told) (reads later) alone)) torn.newest;
@@ -251,13 +272,20 @@ module _ (kept : StoreData) (readers : Readers) (none : kept.stop ≡ None) (who
       by (Some told) (Some now) switches front (since, is, stands) =
           let before : History = rebased opening.start since in
           let on = on_of opening kept before none stands in
-          let (steps, grew, torn) = (goes_over kept readers none whole allowed false pair salt2 has.bytes has.sum (Some now) opening told switches since is on).holds in (
+          let own : Since opening.start (λ t. All (IsOwnAt kept.page_size) (known_pieces opening t)) (Some now) =
+          own_since opening kept.page_size 0 (Some told) (Some now)
+          (switch_goes kept.page_size 0 (front_piece (other_file kept.pair) has.bytes) false (Some told) (Some now) (not_main (other_number kept.pair.current))
+          (own_header kept salt2 has.sum has.bytes (size_of_either opening kept before on.fronts kept.pair.current) switches.is (other_number_is kept.pair)) switches.steps)
+          (since, is, own_of opening kept before stands) in
+          let (steps, grew, torn) = since_both opening.start (MayBeTorn opening (view_of kept (reads before) on.pending on.later))
+          (λ t. All (IsOwnAt kept.page_size) (known_pieces opening t)) (Some now)
+          (goes_over kept readers none whole allowed false pair salt2 has.bytes has.sum (Some now) opening told switches since is on).holds own in (
             steps,
             grew,
             inr (store_torn opening kept readers before whole allowed on none (rebased opening.start steps) stop
                 (subst (λ (files : Files). FrontAlone kept.pair files (reads (rebased opening.start steps))) (ap reads is ∙ rebased_reads opening.start since)
                 (subst (λ (files : Files). FrontAlone kept.pair (reads told) files) (ap reads grew ∙ rebased_reads opening.start steps) front))
-                torn),
+                torn.0 torn.1),
           )
 
   -- the newest map is that of a store that may go over

@@ -30,11 +30,12 @@ use Rattle.log_commit.specs.Commit.{map_under}
 use Rattle.engine_spec.specs.TwoLogs.{frames_of, current_frames, holders, full_holders, may_switch}
 use Rattle.wal_frames.specs.Found.{log_file}
 use Rattle.log_pair.specs.Pair.{PairView, log_of, other_number, current_file, current_header}
-use Rattle.log_pair.specs.Switch.{Switches, MayGoOver, MayBeTorn, next_header, other_file, switched_view}
+use Rattle.log_pair.specs.Switch.{Switches, MayGoOver, MayBeTorn, front_piece, next_header, other_file, switched_view}
 use Rattle.log_commit.specs.Fronts.{HasFront}
 use Rattle.log_commit.proofs.FrontLaws.{front_fresh}
 use Rattle.store_spec.specs.Store.{StoreData, current_read, newest_in, newest_told, store_state, two_logs, since_of, view_of}
 use Rattle.store_spec.specs.Standing.{IsWholeStore, IsRunning, IsStoreOn, StandsOn, IsOpenedAt, AreFronts}
+use Rattle.store_spec.proofs.OwnFronts.{LeavesNamed, either_named, either_names, not_main, own_header, own_moments, own_of, size_of_either, switch_goes}
 
 -- What the switch rule says: the other log is done, nobody reads it, the current one has enough frames, and its generation isn't the last.
 pub record IsAllowed (kept : StoreData) (readers : Readers) : Type 0 where
@@ -151,7 +152,7 @@ at_more opening maps more (Some old) (Some new) (since, steps, is, same, all) = 
   is,
   same,
   each_weaker opening.before (RecoversOneOf opening maps) (RecoversOneOf opening (maps ++ more))
-      (λ told image leaves chance. Contains-append_left maps more (recovered image) (leaves chance))
+      (λ told image leaves chance. let left = leaves chance in (Contains-append_left maps more (recovered image) left.0, left.1, left.2))
       (rebased opening.start (steps ++ since)) (length since) all,
 )
 
@@ -173,9 +174,14 @@ module _ (kept : StoreData) (readers : Readers) (none : kept.stop ≡ None) (who
       (since, is, may_go opening kept readers (rebased opening.start since) salt2 sum bytes whole allowed switches.is on)
 
   recovers_newest : (told : History) (since : List Step) → told ≡ grown since opening.start → (on : IsStoreOn opening kept (rebased opening.start since)) → (later : History) (image : Files)
-      → Leaves opening (view_of kept (reads (rebased opening.start since)) on.pending on.later) later image → RecoversOneOf opening (newest_in kept.pair (reads told) ∷ []) later image
+      → Leaves opening (view_of kept (reads (rebased opening.start since)) on.pending on.later) later image
+      → LeavesNamed opening (newest_in kept.pair (reads told) ∷ []) kept.page_size (length (reads (rebased opening.start since)).main) later image
   recovers_newest told since is on later image leaves chance = elim (leaves chance) [
-    | inl same ↦ (0, omega arith, ap (newest_in kept.pair) (ap reads is ∙ rebased_reads opening.start since) ∙ sym same)
+    | inl same ↦ (
+      (0, omega arith, ap (newest_in kept.pair) (ap reads is ∙ rebased_reads opening.start since) ∙ sym same),
+      either_named opening kept (rebased opening.start since) on (recovered image) (inl same),
+      either_names opening kept (rebased opening.start since) on (recovered image) (inl same),
+    )
     | inr (some, same) ↦ absurd (some (ap last_size (running_of opening kept (rebased opening.start since) none on).none))
   ]
 
@@ -206,7 +212,12 @@ module _ (kept : StoreData) (readers : Readers) (none : kept.stop ≡ None) (who
       (record { current = refl; header = refl; sealed = refl }) tt).each_moment
   moments (Some told) switches (since, is, stands) =
       let on = on_of opening kept (rebased opening.start since) none stands in
-      (passes_weaker opening (Leaves opening (view_of kept (reads (rebased opening.start since)) on.pending on.later)) (RecoversOneOf opening (newest_in kept.pair (reads told) ∷ []))
+      let end : ℕ = length (reads (rebased opening.start since)).main in
+      own_moments opening kept.page_size end (newest_in kept.pair (reads told) ∷ []) (Some told) new
+      (switch_goes kept.page_size end (front_piece (other_file kept.pair) bytes) ok (Some told) new (not_main (other_number kept.pair.current))
+      (own_header kept salt2 sum bytes (size_of_either opening kept (rebased opening.start since) on.fronts kept.pair.current) switches.is (other_number_is kept.pair)) switches.steps)
+      (since, is, (own_of opening kept (rebased opening.start since) stands, omega arith))
+      (passes_weaker opening (Leaves opening (view_of kept (reads (rebased opening.start since)) on.pending on.later)) (LeavesNamed opening (newest_in kept.pair (reads told) ∷ []) kept.page_size end)
       (ByAnswer ok (Holds opening (switched_view (view_of kept (reads (rebased opening.start since)) on.pending on.later) header)) (MayBeTorn opening (view_of kept (reads (rebased opening.start since)) on.pending on.later)))
       (λ later. Unit {0}) (recovers_newest told since is on) (λ later holds. tt) (Some told) new (goes_over told switches since is on)).each_moment
 

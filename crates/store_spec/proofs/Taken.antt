@@ -1,5 +1,5 @@
 -- What a step of a checkpoint did, by its answer: nothing, or one step of the disk.
-use Rattle.std.proofs.Common.{◌≡◌, ◌∙◌, ◌⊎◌, inl, inr, ℕ, zero, suc, ◌-◌, ◌*◌, ◌≤◌, ◌<◌, ◌==◌, if◌then◌else◌, Bool, true, false, List, [], ◌∷◌, length, refl, sym, ap, subst, arith, length-drop, mul-le-mul_right, Option, Some}
+use Rattle.std.proofs.Common.{◌≡◌, ◌∙◌, ◌⊎◌, inl, inr, ℕ, zero, suc, ◌+◌, ◌-◌, ◌*◌, ◌≤◌, ◌<◌, ◌==◌, if◌then◌else◌, Bool, true, false, List, [], ◌∷◌, length, refl, sym, ap, subst, arith, length-drop, mul-le-mul_right, Option, Some}
 use Rattle.std.specs.Prelude.{Contains, IfSome, slice_get, Result, Ok, Err}
 use Rattle.std.proofs.lemmas.List.{length-map}
 use Rattle.std.proofs.lemmas.List.Elements.{All-get_or}
@@ -98,6 +98,13 @@ page_long header sum (frame ∷ rest) zero bytes valid within is =
     ap (λ (xs : List ℕ). length xs) is ∙ length-drop 24 frame ∙ omega arith
 page_long header sum (frame ∷ rest) (suc place) bytes valid within is = page_long header (sum_after header sum frame) rest place bytes valid.1 (omega arith) is
 
+page_end : (number size : ℕ) → 1 ≤ number → (number - 1) * size + size ≡ number * size
+page_end zero size some = absurd (omega arith)
+page_end (suc number) size some = by number (suc number - 1) (omega arith)
+  where
+    by : (n m : ℕ) → m ≡ n → m * size + size ≡ suc n * size
+    by n m is = ap (λ (k : ℕ). k * size + size) is ∙ grind arith
+
 -- Nothing changed; or nobody held what a copy would change, and the disk made one step.
 pub data Taken (kept : StoreData) (readers : Readers) (state : LogState) (old new : Option History) : Type 0 where
   Stays : state ≡ kept.state → new ≡ old → Taken kept readers state old new
@@ -113,7 +120,8 @@ module _ (kept : StoreData) (readers : Readers) (pins : List Pin) where
         unfinished = unfinished;
         next = subst (λ (pages : List ℕ). IsNextPage pages kept.state.copied page) listed next;
         some = let usable = live.whole.usable in omega (arith, usable.0, usable.1);
-        reached = reach page (omega (arith, inside.0)) inside.1 b.reach;
+        reached = (let whole = reach page (omega (arith, inside.0)) inside.1 b.reach in omega (arith, whole));
+        inside = reach page (omega (arith, inside.0)) inside.1 b.reach;
       })
     where
       b : Base kept (reads told)
@@ -131,10 +139,11 @@ module _ (kept : StoreData) (readers : Readers) (pins : List Pin) where
           (All-get_or (λ (n : ℕ). (1 ≤ n) × (n ≤ kept.size)) (log_in kept.index (other_number kept.pair.current)).pages held.0 page held.1
           (counted_log kept live.whole (other_number kept.pair.current) (other_which kept live.whole)).pages)
 
-      reach : (page : ℕ) → 1 ≤ page → page ≤ kept.size → kept.size * kept.page_size ≤ length (reads told).main → (page - 1) * kept.page_size ≤ length (reads told).main
+      reach : (page : ℕ) → 1 ≤ page → page ≤ kept.size → kept.size * kept.page_size ≤ length (reads told).main
+          → (page - 1) * kept.page_size + kept.page_size ≤ length (reads told).main
       reach page from within long =
-          let low : (page - 1) * kept.page_size ≤ kept.size * kept.page_size = mul-le-mul_right kept.page_size (omega arith) in
-          omega arith
+          let low : page * kept.page_size ≤ kept.size * kept.page_size = mul-le-mul_right kept.page_size within in
+          omega (arith, low, long, page_end page kept.page_size from)
 
   -- the page was copied
   copies : (told here : History) (page : ℕ) (bytes : List ℕ) (new : Option History) → IsLiveStore (Some told) kept readers pins → reads here ≡ reads told → kept.state.done ≡ false

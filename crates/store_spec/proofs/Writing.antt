@@ -13,7 +13,7 @@ use Rattle.log_spec.specs.Accept.{Frame, page_numbers, page_number}
 use Rattle.crash_spec.specs.Elsewhere.{IsElsewhere}
 use Rattle.crash_spec.specs.Logs.{IsWhole}
 use Rattle.crash_spec.specs.Opening.{Opening, grown}
-use Rattle.crash_spec.specs.Recovered.{page_after_frames, main_page}
+use Rattle.crash_spec.specs.Recovered.{page_after_frames, main_page, NamesPages}
 use Rattle.crash_spec.specs.Store.{StoreView, AreOnDisk}
 use Rattle.engine_spec.specs.declared.commits.Commit.{Commit}
 use Rattle.wal_frames.specs.Found.{log_file}
@@ -161,6 +161,7 @@ module _ (opening : Opening) (kept : StoreData) (told : History) (more : List St
         most1 = fronts.most1;
         most2 = fronts.most2;
         few = fronts.few;
+        sizes = fronts.sizes;
         log1 = (front_commits opening told Log1 kept.pair.one.header kept.pair.one.header.salt1 fronts.most1 more refl
             (subst (λ (log : ℕ). (log_of kept.pair log).header.salt1 < 2 ^ 32) is small)
             (subst (λ (log : ℕ). header_size ≤ length (content (reads told) (log_file log))) is long) steps fronts.log1).0;
@@ -172,17 +173,20 @@ module _ (opening : Opening) (kept : StoreData) (told : History) (more : List St
         most1 = fronts.most1;
         most2 = fronts.most2;
         few = fronts.few;
+        sizes = fronts.sizes;
         log1 = front_beside opening told Log2 Log1 kept.pair.two.header kept.pair.one.header.salt1 fronts.most1 more refl steps fronts.log1;
         log2 = (front_commits opening told Log2 kept.pair.two.header kept.pair.two.header.salt1 fronts.most2 more refl
             (subst (λ (log : ℕ). (log_of kept.pair log).header.salt1 < 2 ^ 32) is small)
             (subst (λ (log : ℕ). header_size ≤ length (content (reads told) (log_file log))) is long) steps fronts.log2).0;
       }
 
-fronts_of : (opening : Opening) (old new : StoreData) (told : History) → IsPairOf old.pair new.pair → AreFronts opening old told → AreFronts opening new told
-fronts_of opening old new told same fronts = record {
+fronts_of : (opening : Opening) (old new : StoreData) (told : History) → IsPairOf old.pair new.pair → new.page_size ≡ old.page_size → AreFronts opening old told → AreFronts opening new told
+fronts_of opening old new told same paged fronts = record {
   most1 = fronts.most1;
   most2 = fronts.most2;
   few = subst (λ (h : LogFields). (fronts.most1 ≤ h.generation) × (fronts.most2 ≤ h.generation)) (sym (current_header_of old.pair new.pair same)) fronts.few;
+  sizes = subst (λ (size : ℕ). (new.pair.one.header.page_size ≡ size) × (new.pair.two.header.page_size ≡ size)) (sym paged)
+      (ap (λ (h : LogFields). h.page_size) same.one ∙ fronts.sizes.0, ap (λ (h : LogFields). h.page_size) same.two ∙ fronts.sizes.1);
   log1 = subst (λ (h : LogFields). HasFront opening told Log1 h.salt1 fronts.most1) (sym same.one) fronts.log1;
   log2 = subst (λ (h : LogFields). HasFront opening told Log2 h.salt1 fronts.most2) (sym same.two) fronts.log2;
 }
@@ -254,8 +258,8 @@ module _ (opening : Opening) (kept : StoreData) (pair : PairView) (index : Index
   other_pages_after =
       ap page_numbers other_after ∙ aside.other_pages ∙ sym has.other.pages ∙ ap (λ (log : ℕ). (log_in index (other_number log)).pages) (sym same.current)
 
-  pub on_committed : IsWhole opening told (current_file kept.pair) → IsStoreOn opening Kept told
-  on_committed whole = record {
+  pub on_committed : IsWhole opening told (current_file kept.pair) → ((long : ℕ) → NamesPages long kept.page_size later) → IsStoreOn opening Kept told
+  on_committed whole names = record {
     pending = [];
     later = newest_in kept.pair files;
     there = record {
@@ -273,7 +277,9 @@ module _ (opening : Opening) (kept : StoreData) (pair : PairView) (index : Index
     });
     other_whole = subst (IsWhole opening told) (sym (other_file_of kept.pair pair same)) aside.other_whole;
     main_whole = aside.main_whole;
-    fronts = fronts_of opening kept Kept told same aside.fronts;
+    fronts = fronts_of opening kept Kept told same refl aside.fronts;
+    names = subst (λ (pages : PageMap). NamesPages (length (reads told).main) kept.page_size pages) (sym newest_after) (names (length (reads told).main));
+    later_names = λ some. absurd (some refl);
   }
 
 -- A call failed, and some of it may be on its way.
@@ -305,8 +311,9 @@ module _ (opening : Opening) (kept : StoreData) (pair : PairView) (stop : KeptSt
   pub newest_stays : newest_in pair (reads told) ≡ newest_in kept.pair files
   newest_stays = newest_is opening Stopped Coming told stopped_view may.1
 
-  pub on_stopped : later ≡ map_under (newest_in kept.pair files) stop.images stop.size → IsStoreOn opening Stopped told
-  on_stopped is = record {
+  pub on_stopped : later ≡ map_under (newest_in kept.pair files) stop.images stop.size
+      → NamesPages (length files.main) kept.page_size (newest_in kept.pair files) → ((long : ℕ) → NamesPages long kept.page_size later) → IsStoreOn opening Stopped told
+  on_stopped is names later_names = record {
     pending = may.0;
     later = later;
     there = record {
@@ -320,5 +327,8 @@ module _ (opening : Opening) (kept : StoreData) (pair : PairView) (stop : KeptSt
     running = is ∙ ap (λ (m : PageMap). map_under m stop.images stop.size) (sym newest_stays);
     other_whole = subst (IsWhole opening told) (sym (other_file_of kept.pair pair same)) aside.other_whole;
     main_whole = aside.main_whole;
-    fronts = fronts_of opening kept Stopped told same aside.fronts;
+    fronts = fronts_of opening kept Stopped told same refl aside.fronts;
+    names = subst (λ (pages : PageMap). NamesPages (length (reads told).main) kept.page_size pages) (sym newest_stays)
+        (subst (λ (main : List ℕ). NamesPages (length main) kept.page_size (newest_in kept.pair files)) (sym aside.main) names);
+    later_names = λ some. later_names;
   }

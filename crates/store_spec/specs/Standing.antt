@@ -1,17 +1,18 @@
 -- What holds of a store between its calls.
-use Rattle.std.specs.Prelude.{◌≡◌, ◌⊎◌, ℕ, ◌+◌, ◌*◌, ◌<◌, ◌≤◌, true, List, [], length, take, All, Contains, Option, Some, None, IfSome, IsSome, MatchOption}
+use Rattle.std.specs.Prelude.{◌≡◌, ◌≢◌, ◌⊎◌, ℕ, ◌+◌, ◌*◌, ◌<◌, ◌≤◌, true, List, [], length, take, All, Contains, Option, Some, None, IfSome, IsSome, MatchOption}
 use Rattle.disk_face.specs.declared.disk.File.TheVariants.{Main, Log1, Log2}
 use Rattle.disk_face.specs.Files.{Files}
 use Rattle.disk_face.specs.Steps.{History, reads}
 use Rattle.disk_face.specs.Told.{IsInside}
 use Rattle.page_spec.specs.Header.{database_limit}
 use Rattle.page_spec.specs.PageMap.{PageMap, page_sizes}
-use Rattle.log_spec.specs.Accept.{Frame, page_numbers}
+use Rattle.log_spec.specs.Accept.{Frame, page_numbers, last_size}
 use Rattle.log_spec.specs.Frames.{frame_place}
 use Rattle.crash_spec.specs.Opening.{Opening, Since}
-use Rattle.crash_spec.specs.Logs.{IsWhole}
-use Rattle.crash_spec.specs.Recovered.{page_after_frames, main_page}
-use Rattle.crash_spec.specs.Store.{Holds}
+use Rattle.crash_spec.specs.Known.{known_pieces}
+use Rattle.crash_spec.specs.Logs.{IsWhole, IsOwnAt}
+use Rattle.crash_spec.specs.Recovered.{page_after_frames, main_page, NamesPages}
+use Rattle.crash_spec.specs.Store.{Holds, named_size}
 use Rattle.engine_spec.specs.declared.pins.Pin.{Pin}
 use Rattle.engine_spec.specs.declared.pins.Readers.{Readers}
 use Rattle.engine_spec.specs.Good.{HasSizes}
@@ -67,11 +68,12 @@ pub record AreThereBoth (kept : StoreData) (told : History) : Type 0 where
   pub other_pages : page_numbers (other_read kept.pair (reads told)) ≡ (log_in kept.index (other_number kept.pair.current)).pages
   pub copied : AreCopied kept (reads told)
 
--- what is known of the front of each log: headers were begun there at most so many times
+-- What is known of the front of each log: its header is for pages of the store's size, and headers were begun there at most so many times.
 pub record AreFronts (opening : Opening) (kept : StoreData) (told : History) : Type 0 where
   pub most1 : ℕ
   pub most2 : ℕ
   pub few : (most1 ≤ (current_header kept.pair).generation) × (most2 ≤ (current_header kept.pair).generation)
+  pub sizes : (kept.pair.one.header.page_size ≡ kept.page_size) × (kept.pair.two.header.page_size ≡ kept.page_size)
   pub log1 : HasFront opening told Log1 kept.pair.one.header.salt1 most1
   pub log2 : HasFront opening told Log2 kept.pair.two.header.salt1 most2
 
@@ -81,7 +83,8 @@ pub record IsRunning (opening : Opening) (kept : StoreData) (pending : List Fram
   pub stands : LogStands opening kept.pair (current_read kept.pair (reads told)) [] told
   pub whole : IsWhole opening told (current_file kept.pair)
 
--- Since an opening the files hold the store. Where a log write failed, these frames may be on their way, and make the map that is kept.
+-- Since an opening the files hold the store. Where a log write failed, these frames may be on their way, and make the map that is kept. The
+-- newest map's page 1 names its pages, or Main's length does; that of the map on its way names them itself.
 pub record IsStoreOn (opening : Opening) (kept : StoreData) (told : History) : Type 0 where
   pub pending : List Frame
   pub later : PageMap
@@ -91,12 +94,19 @@ pub record IsStoreOn (opening : Opening) (kept : StoreData) (told : History) : T
   pub other_whole : IsWhole opening told (other_file kept.pair)
   pub main_whole : kept.state.done ≡ true → IsWhole opening told Main
   pub fronts : AreFronts opening kept told
+  pub names : NamesPages (length (reads told).main) kept.page_size (newest_in kept.pair (reads told))
+  pub later_names : last_size pending ≢ 0 → (long : ℕ) → NamesPages long kept.page_size later
 
 -- Or the header failed with which a commit would have begun the other log anew: nothing is written any more, and whatever a crash leaves
--- recovers to the newest map.
+-- recovers to the newest map, which names the store's page size and its pages; and each signed header that is known at a log's front is
+-- ours and has that size.
 pub record IsTornOn (opening : Opening) (kept : StoreData) (told : History) : Type 0 where
   pub there : AreThereBoth kept told
   pub torn : MayBeTorn opening (view_of kept (reads told) [] (newest_in kept.pair (reads told))) told
+  pub some_size : 100 ≤ kept.page_size
+  pub sized : named_size (reads told).main (other_read kept.pair (reads told)) (current_read kept.pair (reads told)) ≡ kept.page_size
+  pub own : All (IsOwnAt kept.page_size) (known_pieces opening told)
+  pub names : NamesPages (length (reads told).main) kept.page_size (newest_in kept.pair (reads told))
   pub stopped : IsSome kept.stop
   pub done : kept.state.done ≡ true
 

@@ -34,7 +34,7 @@ returns-in-Ok-reset_logs-clause-moments g c view one two h sized none none1 seen
     let founded = settling_join view later (λ told. IsResetting view Log1 one two None told) (λ told. HasMigrated view (next_log one) two told) _ _ _ laid
     (c.in-Ok-found_migrated.ensures.moments view one two laid.holds next1 none (c.lay_down.auto.buf ∙ sized) known) in
     settling_join view later (λ told. HasMigrated view (next_log one) two told) (λ told. IsSettled (store_view view later) (log_fields there) (log_fields here) told) _ _ _ founded
-    (resets_migrated true view here there (next_log one) two _ _ (λ view one two h next2 next1. c.in-Ok-reset_logs.ensures.moments view one two h next2 next1) founded.holds next2 last)
+    (resets_migrated true view here there (next_log one) two _ _ (λ view one two h own next2 next1. c.in-Ok-reset_logs.ensures.moments view one two h own next2 next1) founded.holds next2 last)
 
 pub returns-in-Err-reset_logs-clause-moments : goal.returns-in-Err-reset_logs-clause-moments
 returns-in-Err-reset_logs-clause-moments g c view one two h sized none none1 seen next1 next2 last =
@@ -58,7 +58,7 @@ returns-in-Err-reset_logs-clause-moments g c view one two h sized none none1 see
     let founded = settling_join view later (λ told. IsResetting view Log1 one two None told) (λ told. HasMigrated view (next_log one) two told) _ _ _ laid
     (c.in-Ok-found_migrated.ensures.moments view one two laid.holds next1 none (c.lay_down.auto.buf ∙ sized) known) in
     settling_join view later (λ told. HasMigrated view (next_log one) two told) (λ told. Unit {0}) _ _ _ founded
-    (resets_migrated false view here there (next_log one) two _ _ (λ view one two h next2 next1. c.in-Err-reset_logs.ensures.moments view one two h next2 next1) founded.holds next2 last)
+    (resets_migrated false view here there (next_log one) two _ _ (λ view one two h own next2 next1. c.in-Err-reset_logs.ensures.moments view one two h own next2 next1) founded.holds next2 last)
 
 pub returns-in-Err-found_migrated-clause-moments : goal.returns-in-Err-found_migrated-clause-moments
 returns-in-Err-found_migrated-clause-moments g c view one two h sized none none1 seen next1 next2 last =

@@ -18,7 +18,7 @@ returns-in-Ok-reset_logs-clause-moments g c view one two h sized none neither em
     let founded = settling_join view later (λ told. AreSynced view one two told) (λ told. HasFounded view later [] (next_log one) two told) _ _ _ synced
     (c.in-Ok-found_new.ensures.moments view one two (bare_then view one two _ none neither synced.holds) next1 neither sized (said_still (λ files. files.main ≡ []) _ _ c.in-Ok.ensures.reads empty)) in
     settling_join view later (λ told. HasFounded view later [] (next_log one) two told) (λ told. IsSettled (store_view view later) (log_fields there) (log_fields here) told) _ _ _ founded
-    (resets_later true view later [] here there (next_log one) two _ _ (λ view one two h next2 next1. c.in-Ok-reset_logs.ensures.moments view one two h next2 next1) founded.holds next2 last)
+    (resets_later true view later [] here there (next_log one) two _ _ (λ view one two h own next2 next1. c.in-Ok-reset_logs.ensures.moments view one two h own next2 next1) founded.holds next2 last)
 
 pub returns-in-Err-reset_logs-clause-moments : goal.returns-in-Err-reset_logs-clause-moments
 returns-in-Err-reset_logs-clause-moments g c view one two h sized none neither empty next1 next2 last =
@@ -29,7 +29,7 @@ returns-in-Err-reset_logs-clause-moments g c view one two h sized none neither e
     let founded = settling_join view later (λ told. AreSynced view one two told) (λ told. HasFounded view later [] (next_log one) two told) _ _ _ synced
     (c.in-Ok-found_new.ensures.moments view one two (bare_then view one two _ none neither synced.holds) next1 neither sized (said_still (λ files. files.main ≡ []) _ _ c.in-Ok.ensures.reads empty)) in
     settling_join view later (λ told. HasFounded view later [] (next_log one) two told) (λ told. Unit {0}) _ _ _ founded
-    (resets_later false view later [] here there (next_log one) two _ _ (λ view one two h next2 next1. c.in-Err-reset_logs.ensures.moments view one two h next2 next1) founded.holds next2 last)
+    (resets_later false view later [] here there (next_log one) two _ _ (λ view one two h own next2 next1. c.in-Err-reset_logs.ensures.moments view one two h own next2 next1) founded.holds next2 last)
 
 pub returns-in-Err-found_new-clause-moments : goal.returns-in-Err-found_new-clause-moments
 returns-in-Err-found_new-clause-moments g c view one two h sized none neither empty next1 next2 last =

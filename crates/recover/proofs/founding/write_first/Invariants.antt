@@ -18,7 +18,7 @@ invariant-loop-number g l = record {
   bytes : l.buf ≡ first_then_zeros l.fn.buf l.number;
   reached : IsInside (g.D.DiskTells.told l.disk) Main ((l.number - 1) * length l.fn.buf) 0;
   moments : (view : OpeningView) (one two : FoundLog) → Since view.opening.start (IsWriting view one two 1) (g.D.DiskTells.told l.fn.disk) → length l.fn.buf ≡ view.size
-      → two.frames ≡ [] → HoldFrom (first_then_zeros l.fn.buf) 1 one.frames → length one.frames ≡ l.pages
+      → two.frames ≡ [] → HoldFrom (first_then_zeros l.fn.buf) 1 one.frames → length one.frames ≡ l.pages → l.pages ≤ length view.map
       → Passes view.opening (LeavesMap view) (IsWriting view one two l.number) (g.D.DiskTells.told l.fn.disk) (g.D.DiskTells.told l.disk);
   attached : g.D.DiskTells.attached l.disk ≡ true;
   stays : OnlyWrites g.D.DiskTells l.fn.disk l.disk;

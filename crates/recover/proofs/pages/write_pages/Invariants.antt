@@ -18,7 +18,7 @@ invariant-loop-index g l = record {
   only : OnlyMain (g.D.DiskTells.told l.fn.disk) (g.D.DiskTells.told l.disk);
   reached : IsInside (g.D.DiskTells.told l.disk) Main (l.index * length l.fn.buf) 0;
   moments : (view : OpeningView) (one two : FoundLog) → Since view.opening.start (IsWriting view one two 1) (g.D.DiskTells.told l.fn.disk) → length l.fn.buf ≡ view.size
-      → IfSome (g.D.DiskTells.told l.fn.disk) (λ told. ArePlacesOf view one two (reads told) l.places)
+      → IfSome (g.D.DiskTells.told l.fn.disk) (λ told. ArePlacesOf view one two (reads told) l.places × (length l.places ≤ length view.map))
       → Passes view.opening (LeavesMap view) (IsWriting view one two (l.index + 1)) (g.D.DiskTells.told l.fn.disk) (g.D.DiskTells.told l.disk);
   attached : g.D.DiskTells.attached l.disk ≡ true;
   stays : OnlyWrites g.D.DiskTells l.fn.disk l.disk;

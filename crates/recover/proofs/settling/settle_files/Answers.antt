@@ -1,4 +1,4 @@
-use Rattle.std.proofs.Common.{None, length}
+use Rattle.std.proofs.Common.{None, inl, length}
 use Rattle.log_spec.specs.LogHeader.{log_fields}
 use Rattle.opening_spec.specs.Found.{IsFirst}
 use Rattle.opening_spec.specs.States.{AreSynced, IsResetting, IsSettled, header1_of, header2_of}
@@ -8,7 +8,7 @@ use Rattle.recover.proofs.Placing.{said_still}
 use Rattle.recover.proofs.settling.settle_files.Goals as goal
 
 pub returns-in-Ok-reset_logs-clause-moments : goal.returns-in-Ok-reset_logs-clause-moments
-returns-in-Ok-reset_logs-clause-moments g c view one two h sized none seen is next after =
+returns-in-Ok-reset_logs-clause-moments g c view one two h sized none seen is own next after =
     let first = c.args.headers.now.first in
     let here = log_fields c.args.headers.now.here.bytes in
     let there = log_fields c.args.headers.now.there.bytes in
@@ -19,10 +19,10 @@ returns-in-Ok-reset_logs-clause-moments g c view one two h sized none seen is ne
     (λ some. said_still (λ files. AreSeen view one two c.args.places.now files) _ _ same (seen some)) c.requires.first
     (said_still (λ files. IsFirst files first one two) _ _ same is)) in
     opening_then view (λ told. IsResetting view first one two None told) (IsSettled view (header1_of first here there) (header2_of first here there)) _ _ _ laid
-    (λ k. c.in-Ok-reset_logs.ensures.moments view one two k next after)
+    (λ k. c.in-Ok-reset_logs.ensures.moments view one two k (inl own) next after)
 
 pub returns-in-Err-reset_logs-clause-moments : goal.returns-in-Err-reset_logs-clause-moments
-returns-in-Err-reset_logs-clause-moments g c view one two h sized none seen is next after =
+returns-in-Err-reset_logs-clause-moments g c view one two h sized none seen is own next after =
     let first = c.args.headers.now.first in
     let synced = c.in-Ok.ensures.moments view one two h in
     let same = c.in-Ok.ensures.reads in
@@ -31,10 +31,10 @@ returns-in-Err-reset_logs-clause-moments g c view one two h sized none seen is n
     (λ some. said_still (λ files. AreSeen view one two c.args.places.now files) _ _ same (seen some)) c.requires.first
     (said_still (λ files. IsFirst files first one two) _ _ same is)) in
     opening_then view (λ told. IsResetting view first one two None told) (λ told. Unit {0}) _ _ _ laid
-    (λ k. c.in-Err-reset_logs.ensures.moments view one two k next after)
+    (λ k. c.in-Err-reset_logs.ensures.moments view one two k (inl own) next after)
 
 pub returns-in-Err-lay_down-clause-moments : goal.returns-in-Err-lay_down-clause-moments
-returns-in-Err-lay_down-clause-moments g c view one two h sized none seen is next after =
+returns-in-Err-lay_down-clause-moments g c view one two h sized none seen is own next after =
     let first = c.args.headers.now.first in
     let synced = c.in-Ok.ensures.moments view one two h in
     let same = c.in-Ok.ensures.reads in
@@ -44,7 +44,7 @@ returns-in-Err-lay_down-clause-moments g c view one two h sized none seen is nex
     (said_still (λ files. IsFirst files first one two) _ _ same is))
 
 pub returns-in-Err-clause-moments : goal.returns-in-Err-clause-moments
-returns-in-Err-clause-moments g c view one two h sized none seen is next after = c.in-Err.ensures.moments view one two h
+returns-in-Err-clause-moments g c view one two h sized none seen is own next after = c.in-Err.ensures.moments view one two h
 
 pub lay_down-requires-clause-fits : goal.lay_down-requires-clause-fits
 lay_down-requires-clause-fits g c = said_still (λ files. FitPlaces files (length c.args.buf.now) c.args.places.now) _ _ c.in-Ok.ensures.reads c.requires.fits

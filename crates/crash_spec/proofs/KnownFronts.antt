@@ -1,8 +1,9 @@
 -- Where each known header is ours and has the store's page size, no image has a foreign log or one of another page size; and so it stays at
 -- each moment where the steps write such headers alone.
-use Rattle.std.proofs.Common.{◌≡◌, ℕ, zero, suc, ◌≤◌, Bool, true, false, List, [], ◌∷◌, ◌++◌, length, refl, sym, ◌∙◌, ap, arith}
+use Rattle.std.proofs.Common.{◌≡◌, ℕ, zero, suc, ◌≤◌, Bool, true, false, List, [], ◌∷◌, ◌++◌, length, refl, sym, ◌∙◌, ap, subst, arith}
 use Rattle.std.specs.Prelude.{All, Contains}
-use Rattle.std.proofs.lemmas.List.Elements.{All-cons, All-head, All-tail, All-contains, All-filter, All-weaker}
+use Rattle.std.proofs.lemmas.Bool.{true≢false}
+use Rattle.std.proofs.lemmas.List.Elements.{All-cons, All-head, All-tail, All-contains, All-contains_itself, All-filter, All-weaker}
 use Rattle.disk_face.specs.declared.disk.File.{File}
 use Rattle.disk_face.specs.declared.disk.File.TheVariants.{Main, Log1, Log2}
 use Rattle.disk_face.specs.declared.step.Piece.{Piece}
@@ -10,17 +11,19 @@ use Rattle.disk_face.specs.declared.step.Step.{Step}
 use Rattle.disk_face.specs.declared.step.Step.TheVariants.{Wrote, Refused, Synced}
 use Rattle.disk_face.specs.Files.{Files, content}
 use Rattle.disk_face.specs.Steps.{History, now}
-use Rattle.disk_face.specs.Image.{back}
+use Rattle.disk_face.specs.Image.{back, same_file}
 use Rattle.log_spec.specs.LogHeader.{LogFields, log_fields, header_bytes, is_signed}
 use Rattle.log_spec.proofs.HeaderLaws.{fields_front, fields-take, signed-take, signed_long, unsigned_has_none}
 use Rattle.log_spec.specs.Frames.{accepted_frames}
 use Rattle.crash_spec.specs.Marks.{IsLog, number_of, header_piece}
 use Rattle.crash_spec.specs.Opening.{Opening, grown}
 use Rattle.crash_spec.specs.Known.{known_after, known_pieces, outlasts, IsWithoutChance}
-use Rattle.crash_spec.specs.Logs.{HasHeader, IsOnlyHeader, IsOursAt, NoneForeign}
+use Rattle.crash_spec.specs.Elsewhere.{IsElsewhere}
+use Rattle.crash_spec.specs.Logs.{HasHeader, IsOnlyHeader, IsOursAt, NoneForeign, HaveSize, HaveOwnLogs, IsSizedAt, IsOwnAt, Hands}
+use Rattle.crash_spec.specs.Recovered.{recovered, size_of_first}
 use Rattle.crash_spec.proofs.Headers.{none_foreign}
 use Rattle.crash_spec.proofs.MarkLaws.{marked_header}
-use Rattle.reopening.specs.Reopening.{HaveSize, IsSizedAt, Hands}
+use Rattle.disk_face.proofs.Images.{same_file-refl}
 
 -- what holds of the known pieces and of all that the steps hand to writes, holds of what is known after them
 known_more : (P : Piece → Type 0) (at_first : List Piece) (first : Files) (steps more : List Step) → All P (known_after at_first first steps) → All (Hands P) more
@@ -72,3 +75,39 @@ pub only_sized : (known : List Piece) (log : File) (bytes : List ℕ) (size : �
 only_sized known log bytes size only is =
     All-weaker (HasHeader log (header_bytes bytes)) (IsSizedAt log size)
     (λ piece has file at signed. ap (λ (f : LogFields). f.page_size) (fields_front piece.bytes bytes (has file at signed)) ∙ is) known only
+
+-- each is both ours and of this size
+pub own_known : (known : List Piece) (size : ℕ) → ((log : File) → IsLog log → All (IsOursAt log) known) → ((log : File) → IsLog log → All (IsSizedAt log size) known)
+    → All (IsOwnAt size) known
+own_known known size ours sized =
+    All-weaker (Contains known) (IsOwnAt size)
+    (λ piece c log is. (All-contains (IsOursAt log) known piece (ours log is) c, All-contains (IsSizedAt log size) known piece (sized log is) c)) known (All-contains_itself known)
+
+-- then no log of an image whose map names that size bars an opening
+pub own_logs : (opening : Opening) (told : History) (size : ℕ) (image : Files) → All (IsOwnAt size) (known_pieces opening told) → IsWithoutChance opening told image
+    → (1 ≤ length (recovered image) → size_of_first (recovered image) ≡ size) → HaveOwnLogs image
+own_logs opening told size image own chance named = (
+  fronts_known opening told size image chance (ours Log1 tt) (ours Log2 tt),
+  λ some. subst (λ (n : ℕ). HaveSize n image) (sym (named some)) (sizes_known opening told size image chance (sized Log1 tt) (sized Log2 tt)),
+)
+  where
+    ours : (log : File) → IsLog log → All (IsOursAt log) (known_pieces opening told)
+    ours log is = All-weaker (IsOwnAt size) (IsOursAt log) (λ piece both. (both log is).0) (known_pieces opening told) own
+
+    sized : (log : File) → IsLog log → All (IsSizedAt log size) (known_pieces opening told)
+    sized log is = All-weaker (IsOwnAt size) (IsSizedAt log size) (λ piece both. (both log is).1) (known_pieces opening told) own
+
+-- a piece of neither log
+not_there : (size : ℕ) (piece : Piece) → same_file piece.file Log1 ≡ false → same_file piece.file Log2 ≡ false → IsOwnAt size piece
+not_there size piece one two log is = (λ file at signed. absurd (apart log is file), λ file at signed. absurd (apart log is file))
+  where
+    apart : (log : File) → IsLog log → piece.file ≡ log → ⊥
+    apart Main is file = is
+    apart Log1 is file = true≢false (sym (same_file-refl Log1) ∙ sym (ap (λ (f : File). same_file f Log1) file) ∙ one)
+    apart Log2 is file = true≢false (sym (same_file-refl Log2) ∙ sym (ap (λ (f : File). same_file f Log2) file) ∙ two)
+
+-- a step that writes to neither log hands only such pieces to a write
+pub own_elsewhere : (size : ℕ) (step : Step) → IsElsewhere Log1 step → IsElsewhere Log2 step → Hands (IsOwnAt size) step
+own_elsewhere size (Wrote piece) one two = not_there size piece one two
+own_elsewhere size (Refused piece left) one two = not_there size piece one two
+own_elsewhere size (Synced file) one two = tt
