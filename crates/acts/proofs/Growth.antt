@@ -10,10 +10,10 @@ use Rattle.engine_spec.specs.declared.pins.Ckpt.TheVariants.{Idle}
 use Rattle.page_lines.specs.declared.lines.Act.{Act}
 use Rattle.page_lines.specs.declared.lines.Act.TheVariants as act
 use Rattle.page_lines.specs.declared.lines.Told.{Told}
-use Rattle.page_lines.specs.declared.lines.Told.TheVariants as reply
 use Rattle.engine_spec.specs.declared.commits.Receipt.{Receipt}
 use Rattle.engine_spec.specs.declared.commits.Receipt.TheVariants.{At, ReadOnly}
 use Rattle.engine_spec.specs.declared.commits.Commit.{Commit}
+use Rattle.engine_spec.specs.declared.commits.CommitFault.{CommitFault}
 use Rattle.engine_spec.specs.declared.commits.CommitFault.TheVariants as fault
 use Rattle.engine_spec.specs.declared.pins.Lock.{Lock}
 use Rattle.engine_spec.specs.declared.pins.Readers.{Readers}
@@ -147,32 +147,27 @@ acts_under opened opened_then old new maps maps_then before (act.Write session p
 acts_under opened opened_then old new maps maps_then before (act.Commit session) told after keeps acts =
     by_state (seat_state before session) acts
   where
-    by_told : (transaction : Transaction) (told : Told)
+    by_fault : (transaction : Transaction) (why : CommitFault) (mid : EngineState)
+        → RefusesLines opened_then mid (submitted_of before session transaction) why new → RefusesLines opened mid (submitted_of before session transaction) why new
+    by_fault transaction (fault.Stopped log at) mid refuses = refuses
+    by_fault transaction (fault.BusySnapshot page number) mid refuses = refuses
+    by_fault transaction (fault.SizeLimit pages frames) mid refuses = refuses
+    by_fault transaction fault.Memory mid refuses = refuses
+    by_fault transaction fault.Disk mid refuses = refuses_under opened opened_then keeps mid _ new refuses
+    by_fault transaction (fault.Corrupt page) mid refuses = refuses
+
+    by_answer : (transaction : Transaction)
         → CommitOpen (record { opened = opened_then; old = old; new = new; map_before = maps; map_after = maps_then }) session before after transaction told
         → CommitOpen (record { opened = opened; old = old; new = new; map_before = maps; map_after = maps_then }) session before after transaction told
-    by_told transaction (reply.Done receipt) ((mid, later, (done, accepts, ends)), put) =
-        ((mid, later, (done, accepts_under opened opened_then keeps mid _ receipt done accepts, ends)), put)
-    by_told transaction (reply.Busy page number) ((mid, later, refuses), put) =
-        ((mid, later, refuses), put)
-    by_told transaction reply.Disk ((mid, later, refuses), put) =
-        ((mid, later, refuses_under opened opened_then keeps mid _ new refuses), put)
-    by_told transaction (reply.Stopped log at) ((mid, later, refuses), put) =
-        ((mid, later, refuses), put)
-    by_told transaction (reply.Size pages) ((frames, (mid, later, refuses)), put) =
-        ((frames, (mid, later, refuses)), put)
-    by_told transaction reply.Ok never = absurd never
-    by_told transaction (reply.Byte byte) never = absurd never
-    by_told transaction reply.InTransaction never = absurd never
-    by_told transaction reply.NoTransaction never = absurd never
-    by_told transaction reply.MustRollBack never = absurd never
-    by_told transaction (reply.Ckpt answer) never = absurd never
-    by_told transaction (reply.Logs logs) never = absurd never
+    by_answer transaction (inl (receipt, is, (mid, later, (done, accepts, ends)), put)) =
+        inl (receipt, is, (mid, later, (done, accepts_under opened opened_then keeps mid _ receipt done accepts, ends)), put)
+    by_answer transaction (inr (why, is, (mid, later, refuses), put)) = inr (why, is, (mid, later, by_fault transaction why mid refuses), put)
 
     by_state : (state : State)
         → CommitActs (record { opened = opened_then; old = old; new = new; map_before = maps; map_after = maps_then }) session before after told state
         → CommitActs (record { opened = opened; old = old; new = new; map_before = maps; map_after = maps_then }) session before after told state
     by_state Out same = same
-    by_state (Open transaction) commit = by_told transaction told commit
+    by_state (Open transaction) commit = by_answer transaction commit
     by_state (Refused pin) same = same
 acts_under opened opened_then old new maps maps_then before (act.Rollback session) told after keeps acts =
     by_state (seat_state before session) acts
@@ -403,34 +398,29 @@ acts_go opened old new maps maps_then before (act.Write session page byte) told 
     by_state (Refused pin) same = goes_equal old new same.2
 acts_go opened old new maps maps_then before (act.Commit session) told after acts = by_state (seat_state before session) acts
   where
-    by_told : (transaction : Transaction) (told : Told)
+    by_fault : (transaction : Transaction) (why : CommitFault) (mid : EngineState)
+        → RefusesLines opened mid (submitted_of before session transaction) why new → GoesOn mid new
+    by_fault transaction (fault.Stopped log at) mid refuses = goes_equal mid new refuses.2
+    by_fault transaction (fault.BusySnapshot page number) mid refuses = goes_equal mid new refuses.3
+    by_fault transaction (fault.SizeLimit pages frames) mid refuses = goes_equal mid new refuses.6
+    by_fault transaction fault.Memory mid refuses = goes_equal mid new refuses.1
+    by_fault transaction fault.Disk mid refuses = goes_barred opened mid new (submitted_of before session transaction) refuses
+    by_fault transaction (fault.Corrupt page) mid refuses = goes_equal mid new refuses.2
+
+    by_answer : (transaction : Transaction)
         → CommitOpen (record { opened = opened; old = old; new = new; map_before = maps; map_after = maps_then }) session before after transaction told
         → GoesOn old new
-    by_told transaction (reply.Done receipt) ((mid, later, (done, accepts, ends)), put) =
+    by_answer transaction (inl (receipt, is, (mid, later, (done, accepts, ends)), put)) =
         goes_twice old done new (goes_twice old mid done (goes_later old mid later)
         (goes_accepts opened mid done (submitted_of before session transaction) receipt accepts)) (goes_ends done new transaction.pin ends)
-    by_told transaction (reply.Busy page number) ((mid, later, refuses), put) =
-        goes_twice old mid new (goes_later old mid later) (goes_equal mid new refuses.3)
-    by_told transaction reply.Disk ((mid, later, refuses), put) =
-        goes_twice old mid new (goes_later old mid later)
-        (goes_barred opened mid new (submitted_of before session transaction) refuses)
-    by_told transaction (reply.Stopped log at) ((mid, later, refuses), put) =
-        goes_twice old mid new (goes_later old mid later) (goes_equal mid new refuses.2)
-    by_told transaction (reply.Size pages) ((frames, (mid, later, refuses)), put) =
-        goes_twice old mid new (goes_later old mid later) (goes_equal mid new refuses.6)
-    by_told transaction reply.Ok never = absurd never
-    by_told transaction (reply.Byte byte) never = absurd never
-    by_told transaction reply.InTransaction never = absurd never
-    by_told transaction reply.NoTransaction never = absurd never
-    by_told transaction reply.MustRollBack never = absurd never
-    by_told transaction (reply.Ckpt answer) never = absurd never
-    by_told transaction (reply.Logs logs) never = absurd never
+    by_answer transaction (inr (why, is, (mid, later, refuses), put)) =
+        goes_twice old mid new (goes_later old mid later) (by_fault transaction why mid refuses)
 
     by_state : (state : State)
         → CommitActs (record { opened = opened; old = old; new = new; map_before = maps; map_after = maps_then }) session before after told state
         → GoesOn old new
     by_state Out same = goes_equal old new same.2
-    by_state (Open transaction) commit = by_told transaction told commit
+    by_state (Open transaction) commit = by_answer transaction commit
     by_state (Refused pin) same = goes_equal old new same.2
 acts_go opened old new maps maps_then before (act.Rollback session) told after acts = by_state (seat_state before session) acts
   where

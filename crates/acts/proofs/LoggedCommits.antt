@@ -4,6 +4,7 @@ use Rattle.std.specs.Prelude.{◌⊎◌, Option, Some, Contains}
 use Rattle.disk_face.specs.Faults.{Rose}
 use Rattle.page_spec.specs.PageMap.{PageMap, page_size_of}
 use Rattle.engine_spec.specs.declared.commits.Commit.{Commit}
+use Rattle.engine_spec.specs.declared.commits.CommitFault.{CommitFault}
 use Rattle.engine_spec.specs.declared.commits.CommitFault.TheVariants as fault
 use Rattle.engine_spec.specs.declared.commits.Receipt.TheVariants.{At, ReadOnly}
 use Rattle.engine_spec.specs.Change.{Change, laid}
@@ -19,7 +20,7 @@ use Rattle.page_lines.specs.Logged.{LoggedWorld, LoggedOutcome, FailsClear, Fail
 use Rattle.page_lines.specs.World as run
 use Rattle.page_lines.specs.World.{SessionState, change_of, committed, handed_in, moved, newest_map}
 use Rattle.acts.specs.Logged.{TellsLogged, FindsLogged, LeadsLogged}
-use Rattle.acts.specs.Pagers.{Between, CommitActs, CommitOpen, IsSoundState, IsSoundTransaction, RefusesLines, pins_in, seat_state, submitted_of, with_state}
+use Rattle.acts.specs.Pagers.{Between, CommitActs, CommitOpen, IsSoundState, IsSoundTransaction, RefusesLines, pins_in, seat_state, state_refused, submitted_of, told_of_refusal, with_state}
 use Rattle.acts.specs.Standing.{IsTransaction, Matches, PinStands}
 use Rattle.acts.specs.declared.seats.Seat.{Seat}
 use Rattle.acts.specs.declared.seats.State.{State}
@@ -29,7 +30,7 @@ use Rattle.acts.proofs.LoggedBars.{reads_only, finds_stop, finds_conflict, finds
 use Rattle.acts.proofs.LoggedLaying.{as_maps, as_logged, barred_world, fits_world, free_world, map_is, moments_laid, over_world, stop_place, written_is}
 use Rattle.acts.proofs.LoggedStanding.{GoesWell, GoesWrong, at_once, counted_disk, counted_faults, leads_well, leads_wrong, pin_stays, rests, stays, still, tells_as, tells_counted, tells_same, turns}
 use Rattle.acts.proofs.LoggedStatements.{goes_out}
-use Rattle.acts.proofs.SeatLaws.{sound_at}
+use Rattle.acts.proofs.SeatLaws.{sound_at, told_once, unmoved}
 use Rattle.acts.proofs.StandingCommits.{submits, tells_committed}
 use Rattle.acts.proofs.Telling.{extends_push, extends_same}
 
@@ -215,29 +216,39 @@ module _ (engine : Between) (seats after : List Seat) (logged : LoggedWorld) (s 
                 logs_are tells.readers tells) refl refl;
           }
 
+  -- it was refused
+  commit_refused : (why : CommitFault) (told : Told) → told_of_refusal why ≡ Some told
+      → RefusesLines engine.opened engine.old (submitted_of seats s held) why engine.new → after ≡ with_state seats s (state_refused why held)
+      → Commits engine after logged s told (run.Open transaction)
+  commit_refused (fault.BusySnapshot page number) told is refuses put =
+      subst (λ (told : Told). Commits engine after logged s told (run.Open transaction)) (told_once _ told is) (inl (is_barred page number refuses put))
+  commit_refused (fault.SizeLimit pages frames) told is refuses put =
+      subst (λ (told : Told). Commits engine after logged s told (run.Open transaction)) (told_once _ told is)
+      (inl (has_no_room pages frames refuses (put ∙ unmoved seats s held was)))
+  commit_refused (fault.Stopped log at) told is refuses put =
+      subst (λ (told : Told). Commits engine after logged s told (run.Open transaction)) (told_once _ told is)
+      (inl (has_stopped log at refuses (put ∙ unmoved seats s held was)))
+  commit_refused fault.Disk told is refuses put =
+      subst (λ (told : Told). Commits engine after logged s told (run.Open transaction)) (told_once _ told is)
+      (inr (by_left refuses (put ∙ unmoved seats s held was)))
+    where
+      by_left : RefusesLines engine.opened engine.old (submitted_of seats s held) fault.Disk engine.new → after ≡ seats
+          → GoesWrong engine after logged reply.Disk (FailsToCommit logged (run.Open transaction))
+      by_left (clear, rose, inl is) same = fails_to_read clear rose is same
+      by_left (clear, rose, inr stopped) same = stops clear rose stopped same
+  commit_refused fault.Memory told is refuses put = absurd cc
+  commit_refused (fault.Corrupt page) told is refuses put = absurd cc
+
   -- by its answer
   commit_answered : (told : Told) → CommitOpen engine s seats after held told → Commits engine after logged s told (run.Open transaction)
-  commit_answered (reply.Done (ReadOnly n)) ((mid, later, (done, accepts, ends)), put) =
-      inl (reads_alone n done accepts.0 accepts.1 (accepts.2 ∙ later.nobody b.alone) ends put)
-  commit_answered (reply.Done (At number)) ((mid, later, (done, accepts, ends)), put) =
-      inl (is_laid number done (subst (λ (seen : EngineState). IsCommitted engine.opened seen (submitted_of seats s held) number done)
-      (later.nobody b.alone) accepts) ends put)
-  commit_answered (reply.Busy page number) (found, put) = inl (is_barred page number (at_once engine seats after logged _ b found) put)
-  commit_answered (reply.Size pages) ((frames, found), put) = inl (has_no_room pages frames (at_once engine seats after logged _ b found) put)
-  commit_answered (reply.Stopped log at) (found, put) = inl (has_stopped log at (at_once engine seats after logged _ b found) put)
-  commit_answered reply.Disk (found, put) = inr (by_left (at_once engine seats after logged _ b found))
-    where
-      by_left : RefusesLines engine.opened engine.old (submitted_of seats s held) fault.Disk engine.new
-          → GoesWrong engine after logged reply.Disk (FailsToCommit logged (run.Open transaction))
-      by_left (clear, rose, inl is) = fails_to_read clear rose is put
-      by_left (clear, rose, inr stopped) = stops clear rose stopped put
-  commit_answered reply.Ok acts = absurd acts
-  commit_answered (reply.Byte byte) acts = absurd acts
-  commit_answered reply.InTransaction acts = absurd acts
-  commit_answered reply.NoTransaction acts = absurd acts
-  commit_answered reply.MustRollBack acts = absurd acts
-  commit_answered (reply.Ckpt answer) acts = absurd acts
-  commit_answered (reply.Logs logs) acts = absurd acts
+  commit_answered told (inl (ReadOnly n, is, (mid, later, (done, accepts, ends)), put)) =
+      subst (λ (told : Told). Commits engine after logged s told (run.Open transaction)) (sym is)
+      (inl (reads_alone n done accepts.0 accepts.1 (accepts.2 ∙ later.nobody b.alone) ends put))
+  commit_answered told (inl (At number, is, (mid, later, (done, accepts, ends)), put)) =
+      subst (λ (told : Told). Commits engine after logged s told (run.Open transaction)) (sym is)
+      (inl (is_laid number done (subst (λ (seen : EngineState). IsCommitted engine.opened seen (submitted_of seats s held) number done)
+      (later.nobody b.alone) accepts) ends put))
+  commit_answered told (inr (why, is, found, put)) = commit_refused why told is (at_once engine seats after logged _ b found) put
 
 -- by how the session stands
 commit_stands : (engine : Between) (seats after : List Seat) (logged : LoggedWorld) (s : ℕ) (told : Told) (state : State) (session : SessionState)

@@ -37,8 +37,8 @@ use Rattle.acts.specs.declared.seats.Seat.{Seat}
 use Rattle.acts.specs.declared.seats.State.{State}
 use Rattle.acts.specs.declared.seats.State.TheVariants.{Open, Out}
 use Rattle.acts.specs.declared.seats.Transaction.{Transaction}
-use Rattle.acts.specs.Pagers.{Between, RefusesLines, Acts, ReadActs, ReadOpen, CommitOpen, IsSoundTransaction, after_own, after_fetch, after_write, submitted_of, with_state}
-use Rattle.acts.specs.Turns.{Moves, StandsRefused, SwapsPins}
+use Rattle.acts.specs.Pagers.{Between, RefusesLines, Acts, ReadActs, ReadOpen, CommitActs, CommitOpen, IsSoundTransaction, after_own, after_fetch, after_write, submitted_of, told_of_refusal, with_state}
+use Rattle.acts.specs.Turns.{Moves, StandsRefused, SwapsPins, told_or_want}
 
 -- A read of an own page leaves a transaction sound.
 pub sound_own : (page_size : ℕ) (old new : Transaction) (page : ℕ) → new ≡ after_own old page
@@ -91,6 +91,14 @@ pub read_acts : (engine : Between) (session ordinal page : ℕ) (told : Result T
 read_acts engine session ordinal page (Ok told) old new reads = λ before after moves.
     subst (λ (state : State). ReadActs engine session page before after told state) (sym moves.state) (reads before after session ordinal moves)
 read_acts engine session ordinal page (Err why) old new reads = tt
+
+-- COMMIT in an open transaction, as an act
+pub commit_acts : (engine : Between) (session ordinal : ℕ) (told : Result Told AllocError) (old : Transaction) (new : State)
+    → IfOk told (λ told. (before after : List Seat) → Moves before session ordinal (Open old) new after → CommitOpen engine session before after old told)
+    → IfOk told (λ told. (before after : List Seat) → Moves before session ordinal (Open old) new after → Acts engine before (act.Commit session) told after)
+commit_acts engine session ordinal (Ok told) old new commits = λ before after moves.
+    subst (λ (state : State). CommitActs engine session before after told state) (sym moves.state) (commits before after moves)
+commit_acts engine session ordinal (Err why) old new commits = tt
 
 -- what holds of what an option has
 pub some_by : {A : Type 0} (found : Option A) (P : A → Type 0) → ((x : A) → found ≡ Some x → P x) → IfSome found P
@@ -145,45 +153,20 @@ refused : (engine : Between) (session ordinal : ℕ) (old : Transaction) (why : 
     → IfOk told (λ told. (before after : List Seat) → Moves before session ordinal (Open old) new after
     → CommitOpen engine session before after old told)
 unfolding asked_by
-refused engine session ordinal old (Stopped log at) new told found is =
+refused engine session ordinal old why new told found is =
     subst (λ (told : Result Told AllocError). IfOk told (λ told. (before after : List Seat) → Moves before session ordinal (Open old) new after
-    → CommitOpen engine session before after old told)) (sym is.0)
-    (λ before after moves. (
-      subst (λ (asked : Submitted). During engine.old (λ mid. RefusesLines engine.opened mid asked (Stopped log at) engine.new))
-          (asked_is before session ordinal old new after moves) found,
-      moves.rests is.1,
-    ))
-refused engine session ordinal old (BusySnapshot page number) new told found is =
-    subst (λ (told : Result Told AllocError). IfOk told (λ told. (before after : List Seat) → Moves before session ordinal (Open old) new after
-    → CommitOpen engine session before after old told)) (sym is.0)
-    (λ before after moves. (
-      subst (λ (asked : Submitted). During engine.old (λ mid. RefusesLines engine.opened mid asked (BusySnapshot page number) engine.new))
+    → CommitOpen engine session before after old told)) (sym is.0) (by_told (told_of_refusal why) refl)
+  where
+    by_told : (answer : Option Told) → told_of_refusal why ≡ answer
+        → IfOk (told_or_want answer) (λ told. (before after : List Seat) → Moves before session ordinal (Open old) new after → CommitOpen engine session before after old told)
+    by_told None none = tt
+    by_told (Some answer) same = λ before after moves. inr (
+      why,
+      same,
+      subst (λ (asked : Submitted). During engine.old (λ mid. RefusesLines engine.opened mid asked why engine.new))
           (asked_is before session ordinal old new after moves) found,
       moves.put ∙ ap (λ (state : State). with_state before session state) is.1,
-    ))
-refused engine session ordinal old (SizeLimit pages frames) new told found is =
-    subst (λ (told : Result Told AllocError). IfOk told (λ told. (before after : List Seat) → Moves before session ordinal (Open old) new after
-    → CommitOpen engine session before after old told)) (sym is.0)
-    (λ before after moves. (
-      (
-        frames,
-        subst (λ (asked : Submitted). During engine.old (λ mid. RefusesLines engine.opened mid asked (SizeLimit pages frames) engine.new))
-            (asked_is before session ordinal old new after moves) found,
-      ),
-      moves.rests is.1,
-    ))
-refused engine session ordinal old Memory new told found is =
-    subst (λ (told : Result Told AllocError). IfOk told (λ told. (before after : List Seat) → Moves before session ordinal (Open old) new after
-    → CommitOpen engine session before after old told)) (sym is.0) tt
-refused engine session ordinal old Disk new told found is =
-    subst (λ (told : Result Told AllocError). IfOk told (λ told. (before after : List Seat) → Moves before session ordinal (Open old) new after
-    → CommitOpen engine session before after old told)) (sym is.0)
-    (λ before after moves. (
-      subst (λ (asked : Submitted). During engine.old (λ mid. RefusesLines engine.opened mid asked Disk engine.new))
-          (asked_is before session ordinal old new after moves) found,
-      moves.rests is.1,
-    ))
-refused engine session ordinal old (Corrupt page) new told found is = absurd is
+    )
 
 pub refused_acts : (engine : Between) (session ordinal : ℕ) (old back : Transaction) (why : CommitFault) (new : State) (told : Result Told AllocError)
     (fresh : List PageImage) (freed : List ℕ) → fresh ≡ [] → freed ≡ []
@@ -364,7 +347,9 @@ done_acts engine session ordinal old new receipt done fresh freed none none_free
       ordinal = ordinal;
     } in
     let bare : asked fresh freed ≡ submitted_of before session old =
-    ap (λ (fresh : List PageImage). asked fresh freed) none ∙ (ap (asked []) none_freed ∙ asked_is before session ordinal old new after moves) in (
+    ap (λ (fresh : List PageImage). asked fresh freed) none ∙ (ap (asked []) none_freed ∙ asked_is before session ordinal old new after moves) in inl (
+      receipt,
+      refl,
       (
         found.0,
         found.1,

@@ -1,12 +1,15 @@
 -- Laws of a list of seats: how a session stands after one is put.
-use Rattle.std.proofs.Common.{◌≡◌, ◌∙◌, ℕ, Bool, true, false, cond, eqb, List, [], ◌∷◌, refl, sym, subst, inl, inr, eq-eqb}
-use Rattle.std.specs.Prelude.{Contains}
+use Rattle.std.proofs.Common.{◌≡◌, ◌∙◌, ℕ, Bool, true, false, cond, eqb, List, [], ◌∷◌, refl, sym, ap, subst, inl, inr, eq-eqb}
+use Rattle.std.specs.Prelude.{Contains, Option, Some, unwrap_or}
 use Rattle.std.proofs.lemmas.Bool.{cases_eq, ne_eqb}
 use Rattle.std.proofs.lemmas.List.Elements.{All-head, All-tail, Contains-append_left, Contains-append_right}
 use Rattle.engine_spec.specs.declared.pins.Pin.{Pin}
+use Rattle.page_lines.specs.declared.lines.Told.{Told}
 use Rattle.acts.specs.declared.seats.Seat.{Seat}
 use Rattle.acts.specs.declared.seats.State.{State}
-use Rattle.acts.specs.Pagers.{seat_state, begun_of, with_seat, pins_in, pins_of, IsSoundState, AreSound}
+use Rattle.acts.specs.declared.seats.State.TheVariants.{Open}
+use Rattle.acts.specs.declared.seats.Transaction.{Transaction}
+use Rattle.acts.specs.Pagers.{seat_state, begun_of, with_seat, with_state, pins_in, pins_of, IsSoundState, AreSound}
 
 -- a session stands as the seat says that is put for it
 pub seat_state-same : (seats : List Seat) (seat : Seat) → seat_state (with_seat seats seat) seat.session ≡ seat.state
@@ -83,3 +86,22 @@ sound_at page_size (seat ∷ seats) session sound = elim (cases_eq seat.session 
       subst (IsSoundState page_size) is
       (sound_at page_size seats session (All-tail (λ (s : Seat). IsSoundState page_size s.state) seat seats sound)))
 ]
+
+-- a session that stands in its transaction may be put as it stands
+pub unmoved : (seats : List Seat) (session : ℕ) (transaction : Transaction) → seat_state seats session ≡ Open transaction
+    → with_state seats session (Open transaction) ≡ seats
+unmoved [] session transaction is = absurd cc
+unmoved (first ∷ seats) session transaction is = elim (cases_eq first.session session) [
+  | inl same ↦
+      (let here : seat_state (first ∷ seats) session ≡ first.state = rw (eq-eqb first.session session same) refl in
+      rw (eq-eqb first.session session same) (ap (λ (seat : Seat). seat ∷ seats)
+      (ap (λ (state : State). record { session = session; begun = first.begun; state = state }) (sym is ∙ here)
+      ∙ ap (λ (number : ℕ). record { session = number; begun = first.begun; state = first.state }) (sym same))))
+  | inr apart ↦
+      (let here : seat_state (first ∷ seats) session ≡ seat_state seats session = rw (ne_eqb first.session session apart) refl in
+      rw (ne_eqb first.session session apart) (ap (λ (others : List Seat). first ∷ others) (unmoved seats session transaction (sym here ∙ is))))
+]
+
+-- what is told is told in one way
+pub told_once : (one told : Told) → Some one ≡ Some told → one ≡ told
+told_once one told is = ap (λ (answer : Option Told). unwrap_or answer told) is

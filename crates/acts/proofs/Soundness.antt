@@ -10,10 +10,13 @@ use Rattle.page_lines.specs.declared.lines.Told.TheVariants as reply
 use Rattle.engine_spec.specs.Change.{image_of}
 use Rattle.page_lines.specs.Range.{IsInRange}
 use Rattle.page_lines.proofs.Transactions.{none_are, fills_none}
+use Rattle.engine_spec.specs.declared.commits.CommitFault.{CommitFault}
+use Rattle.engine_spec.specs.declared.commits.CommitFault.TheVariants as fault
 use Rattle.acts.specs.declared.seats.Seat.{Seat}
+use Rattle.acts.specs.declared.seats.Transaction.{Transaction}
 use Rattle.acts.specs.declared.seats.State.{State}
 use Rattle.acts.specs.declared.seats.State.TheVariants.{Out, Open, Refused}
-use Rattle.acts.specs.Pagers.{Between, Acts, BeginActs, ReadActs, ReadOpen, WriteActs, CommitActs, CommitOpen, RollbackActs, AreSound, IsSoundState, IsSoundTransaction, seat_state, begun_of, with_seat, with_state, new_transaction, after_own, after_fetch}
+use Rattle.acts.specs.Pagers.{Between, Acts, BeginActs, ReadActs, ReadOpen, WriteActs, CommitActs, RollbackActs, AreSound, IsSoundState, IsSoundTransaction, seat_state, begun_of, with_seat, with_state, new_transaction, state_refused, after_own, after_fetch}
 use Rattle.acts.proofs.SeatLaws.{sound_at}
 use Rattle.acts.proofs.Outcomes.{sound_own, sound_fetch, after_write_sound}
 
@@ -92,27 +95,25 @@ write_sound engine session page byte before after told (Open transaction) low hi
     sound_moved engine.old.page_size before after session _ all
     (after_write_sound engine.old.page_size transaction page byte low high sound) acts.1
 
+-- so is one whose COMMIT was refused
+refused_sound : (size : ℕ) (why : CommitFault) (transaction : Transaction) → IsSoundTransaction size transaction
+    → IsSoundState size (state_refused why transaction)
+refused_sound size (fault.Stopped log at) transaction sound = sound
+refused_sound size (fault.BusySnapshot page number) transaction sound = tt
+refused_sound size (fault.SizeLimit pages frames) transaction sound = sound
+refused_sound size fault.Memory transaction sound = sound
+refused_sound size fault.Disk transaction sound = sound
+refused_sound size (fault.Corrupt page) transaction sound = sound
+
 -- COMMIT
 commit_sound : (engine : Between) (session : ℕ) (before after : List Seat) (told : Told) (state : State) → AreSound engine.old.page_size before
-    → CommitActs engine session before after told state → AreSound engine.old.page_size after
-commit_sound engine session before after told Out all same = sound_same engine.old.page_size before after all same.1
-commit_sound engine session before after told (Refused pin) all same = sound_same engine.old.page_size before after all same.1
-commit_sound engine session before after told (Open transaction) all acts = by_told told acts
-  where
-    by_told : (told : Told) → CommitOpen engine session before after transaction told → AreSound engine.old.page_size after
-    by_told (reply.Done receipt) (found, put) = sound_moved engine.old.page_size before after session Out all tt put
-    by_told (reply.Busy page number) (found, put) =
-        sound_moved engine.old.page_size before after session (Refused transaction.pin) all tt put
-    by_told reply.Disk (found, same) = sound_same engine.old.page_size before after all same
-    by_told (reply.Stopped log at) (found, same) = sound_same engine.old.page_size before after all same
-    by_told (reply.Size pages) (found, same) = sound_same engine.old.page_size before after all same
-    by_told reply.Ok never = absurd never
-    by_told (reply.Byte byte) never = absurd never
-    by_told reply.InTransaction never = absurd never
-    by_told reply.NoTransaction never = absurd never
-    by_told reply.MustRollBack never = absurd never
-    by_told (reply.Ckpt answer) never = absurd never
-    by_told (reply.Logs logs) never = absurd never
+    → IsSoundState engine.old.page_size state → CommitActs engine session before after told state → AreSound engine.old.page_size after
+commit_sound engine session before after told Out all sound same = sound_same engine.old.page_size before after all same.1
+commit_sound engine session before after told (Refused pin) all sound same = sound_same engine.old.page_size before after all same.1
+commit_sound engine session before after told (Open transaction) all sound (inl (receipt, is, found, put)) =
+    sound_moved engine.old.page_size before after session Out all tt put
+commit_sound engine session before after told (Open transaction) all sound (inr (why, is, found, put)) =
+    sound_moved engine.old.page_size before after session (state_refused why transaction) all (refused_sound engine.old.page_size why transaction sound) put
 
 -- ROLLBACK
 rollback_sound : (engine : Between) (session : ℕ) (before after : List Seat) (told : Told) (state : State)
@@ -134,7 +135,7 @@ acts_sound engine before after (act.Write session page byte) told pages range al
     write_sound engine session page byte before after told (seat_state before session) range.0 range.1 all
     (sound_at engine.old.page_size before session all) acts
 acts_sound engine before after (act.Commit session) told pages range all acts =
-    commit_sound engine session before after told (seat_state before session) all acts
+    commit_sound engine session before after told (seat_state before session) all (sound_at engine.old.page_size before session all) acts
 acts_sound engine before after (act.Rollback session) told pages range all acts =
     rollback_sound engine session before after told (seat_state before session) all acts
 acts_sound engine before after act.Copy told pages range all acts = sound_same engine.old.page_size before after all acts.1

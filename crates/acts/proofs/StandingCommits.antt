@@ -9,6 +9,7 @@ use Rattle.engine_spec.specs.declared.commits.Commit.{Commit}
 use Rattle.engine_spec.specs.declared.commits.Mode.TheVariants.{Concurrent}
 use Rattle.engine_spec.specs.declared.commits.Receipt.{Receipt}
 use Rattle.engine_spec.specs.declared.commits.Receipt.TheVariants.{At, ReadOnly}
+use Rattle.engine_spec.specs.declared.commits.CommitFault.{CommitFault}
 use Rattle.engine_spec.specs.declared.commits.CommitFault.TheVariants as fault
 use Rattle.page_lines.specs.declared.lines.Act.TheVariants as act
 use Rattle.page_lines.specs.declared.lines.Told.{Told}
@@ -28,9 +29,10 @@ use Rattle.acts.specs.declared.seats.Seat.{Seat}
 use Rattle.acts.specs.declared.seats.State.{State}
 use Rattle.acts.specs.declared.seats.State.TheVariants as seat
 use Rattle.acts.specs.declared.seats.Transaction.{Transaction}
-use Rattle.acts.specs.Pagers.{Between, RefusesLines, CommitOpen, CommitActs, IsSoundTransaction, IsSoundState, seat_state, begun_of, with_seat, submitted_of}
+use Rattle.acts.specs.Pagers.{Between, RefusesLines, CommitOpen, CommitActs, IsSoundTransaction, IsSoundState, seat_state, begun_of, with_seat, with_state, submitted_of, told_of_refusal, state_refused}
+use Rattle.acts.specs.Playing.{HasNoLimit}
 use Rattle.acts.specs.Standing.{TellsMaps, PinStands, IsTransaction, Matches}
-use Rattle.acts.proofs.SeatLaws.{sound_at}
+use Rattle.acts.proofs.SeatLaws.{sound_at, told_once}
 use Rattle.acts.proofs.Telling.{extends_same, extends_push, tells_more, tells_readers, not_over}
 use Rattle.acts.proofs.Standing.{Stands, Leads, MindsNoLogs, turn, tells_same, rests, pin_stays, tells_ended}
 
@@ -136,64 +138,61 @@ committed_acts engine seats after world s held transaction (At number) b is same
           (extends_push world.maps (laid (newest_map world) (change_of world transaction))) tt (λ other. refl) (λ other. refl),
     )
 
--- COMMIT of an open transaction
-commit_open : (engine : Between) (seats after : List Seat) (world : World) (s : ℕ) (held : Transaction)
-    (transaction : run.PageTransaction) (told : Told) → Stands engine seats after world → MindsNoLogs engine.old (act.Commit s) told
+-- COMMIT that was refused: over maps alone only a page that was written since bars it
+refused_open : (engine : Between) (seats after : List Seat) (world : World) (s : ℕ) (held : Transaction)
+    (transaction : run.PageTransaction) (told : Told) (why : CommitFault) → Stands engine seats after world → MindsNoLogs engine.old (act.Commit s) told
     → seat_state seats s ≡ seat.Open held → IsTransaction held transaction → PinStands engine.map_before world.maps held.pin
-    → CommitOpen engine s seats after held told → Leads engine after told (commit world s transaction)
-commit_open engine seats after world s held transaction (reply.Done receipt) b minds is same pin acts =
-    let found = acts.0 in
-    let accepts : AcceptsCommit engine.opened engine.old (submitted_of seats s held) receipt found.2.0 =
-    subst (λ (mid : EngineState). AcceptsCommit engine.opened mid (submitted_of seats s held) receipt found.2.0) (found.1.nobody b.alone) found.2.1 in
-    committed_acts engine seats after world s held transaction receipt b is same pin found.2.0 accepts found.2.2 acts.1
-commit_open engine seats after world s held transaction (reply.Busy page number) b minds is same pin acts =
-    let found = acts.0 in
+    → told_of_refusal why ≡ Some told → RefusesLines engine.opened engine.old (submitted_of seats s held) why engine.new
+    → after ≡ with_state seats s (state_refused why held) → Leads engine after told (commit world s transaction)
+refused_open engine seats after world s held transaction told (fault.BusySnapshot page number) b minds is same pin told_is refuses put =
     let tells = b.stands.tells in
-    let refuses : RefusesLines engine.opened engine.old (submitted_of seats s held) (fault.BusySnapshot page number) engine.new =
-    subst (λ (mid : EngineState). RefusesLines engine.opened mid (submitted_of seats s held) (fault.BusySnapshot page number) engine.new) (found.1.nobody b.alone) found.2 in
     let bars : conflict Concurrent transaction.reads transaction.snap world.history ≡ Some (page, number) =
     ap (λ (reads : List ℕ). conflict Concurrent reads transaction.snap world.history) same.reads
     ∙ ap (λ (n : ℕ). conflict Concurrent held.reads n world.history) same.snap
     ∙ ap (conflict Concurrent held.reads held.pin.n) (sym tells.history_is)
     ∙ conflict_is Concurrent held.reads held.pin.n engine.old.history page number refuses.2 in
-    subst (Leads engine after (reply.Busy page number)) (sym (busy_is world s transaction page number (same.wrote ∙ refuses.0) bars)) (
+    subst (λ (told : Told). Leads engine after told (commit world s transaction)) (told_once (reply.Busy page number) told told_is)
+    (subst (Leads engine after (reply.Busy page number)) (sym (busy_is world s transaction page number (same.wrote ∙ refuses.0) bars)) (
       refl,
       turn engine seats after world (moved world s (run.Refused transaction) (reply.Busy page number)).world s
-          (seat.Refused held.pin) (run.Refused transaction) b acts.1
+          (seat.Refused held.pin) (run.Refused transaction) b put
           (tells_same engine seats after world b refuses.3) (extends_same world.maps) (
             same.snap,
-            pin_stays engine seats after world s (seat.Refused held.pin) (seat.Open held) held.pin b is acts.1
+            pin_stays engine seats after world s (seat.Refused held.pin) (seat.Open held) held.pin b is put
                 (0, omega arith, refl) (0, omega arith, refl) pin,
           )
           (λ other. refl) (λ other. refl),
-    )
-commit_open engine seats after world s held transaction reply.Disk b minds is same pin acts =
-    let found = acts.0 in
-    absurd (b.quiet (subst (λ (mid : EngineState). Rose mid.faults engine.new.faults) (found.1.nobody b.alone) found.2.1))
-commit_open engine seats after world s held transaction (reply.Stopped log at) b minds is same pin acts =
-    let found = acts.0 in
-    let stop = found.2.1 in
-    let none : found.0.stopped ≡ None = ap (λ (seen : EngineState). seen.stopped) (found.1.nobody b.alone) ∙ b.stands.tells.running in
-    let some : found.0.stopped ≡ Some stop.0 = stop.1 in
+    ))
+refused_open engine seats after world s held transaction told fault.Disk b minds is same pin told_is refuses put = absurd (b.quiet refuses.1)
+refused_open engine seats after world s held transaction told (fault.Stopped log at) b minds is same pin told_is refuses put =
+    let stop = refuses.1 in
+    let none : engine.old.stopped ≡ None = b.stands.tells.running in
+    let some : engine.old.stopped ≡ Some stop.0 = stop.1 in
     absurd cc
-commit_open engine seats after world s held transaction (reply.Size pages) b minds is same pin acts =
-    let found = acts.0.1 in
+refused_open engine seats after world s held transaction told (fault.SizeLimit pages frames) b minds is same pin told_is refuses put =
     let sound : IsSoundTransaction engine.old.page_size held =
     subst (IsSoundState engine.old.page_size) is (sound_at engine.old.page_size seats s b.sound) in
-    let refuses : RefusesLines engine.opened engine.old (submitted_of seats s held) (fault.SizeLimit pages acts.0.0) engine.new =
-    subst (λ (mid : EngineState). RefusesLines engine.opened mid (submitted_of seats s held) (fault.SizeLimit pages acts.0.0) engine.new) (found.1.nobody b.alone) found.2 in
     elim minds [
       | inl none ↦
           absurd (not_over engine.old world.maps world.history (submitted_of seats s held).change b.stands.tells none refl refl sound.images refuses.3)
-      | inr never ↦ absurd never.1
+      | inr never ↦ absurd (subst HasNoLimit (sym (told_once (reply.Size pages) told told_is)) never.1)
     ]
-commit_open engine seats after world s held transaction reply.Ok b minds is same pin acts = absurd acts
-commit_open engine seats after world s held transaction (reply.Byte byte) b minds is same pin acts = absurd acts
-commit_open engine seats after world s held transaction reply.InTransaction b minds is same pin acts = absurd acts
-commit_open engine seats after world s held transaction reply.NoTransaction b minds is same pin acts = absurd acts
-commit_open engine seats after world s held transaction reply.MustRollBack b minds is same pin acts = absurd acts
-commit_open engine seats after world s held transaction (reply.Ckpt answer) b minds is same pin acts = absurd acts
-commit_open engine seats after world s held transaction (reply.Logs logs) b minds is same pin acts = absurd acts
+refused_open engine seats after world s held transaction told fault.Memory b minds is same pin told_is refuses put = absurd cc
+refused_open engine seats after world s held transaction told (fault.Corrupt page) b minds is same pin told_is refuses put = absurd cc
+
+-- COMMIT of an open transaction
+commit_open : (engine : Between) (seats after : List Seat) (world : World) (s : ℕ) (held : Transaction)
+    (transaction : run.PageTransaction) (told : Told) → Stands engine seats after world → MindsNoLogs engine.old (act.Commit s) told
+    → seat_state seats s ≡ seat.Open held → IsTransaction held transaction → PinStands engine.map_before world.maps held.pin
+    → CommitOpen engine s seats after held told → Leads engine after told (commit world s transaction)
+commit_open engine seats after world s held transaction told b minds is same pin (inl (receipt, told_is, found, put)) =
+    let accepts : AcceptsCommit engine.opened engine.old (submitted_of seats s held) receipt found.2.0 =
+    subst (λ (mid : EngineState). AcceptsCommit engine.opened mid (submitted_of seats s held) receipt found.2.0) (found.1.nobody b.alone) found.2.1 in
+    subst (λ (told : Told). Leads engine after told (commit world s transaction)) (sym told_is)
+    (committed_acts engine seats after world s held transaction receipt b is same pin found.2.0 accepts found.2.2 put)
+commit_open engine seats after world s held transaction told b minds is same pin (inr (why, told_is, found, put)) =
+    refused_open engine seats after world s held transaction told why b minds is same pin told_is
+    (subst (λ (mid : EngineState). RefusesLines engine.opened mid (submitted_of seats s held) why engine.new) (found.1.nobody b.alone) found.2) put
 
 -- COMMIT
 pub commit_acts : (engine : Between) (seats after : List Seat) (world : World) (s : ℕ) (told : Told) (state : State) (session : SessionState)

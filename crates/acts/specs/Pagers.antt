@@ -8,6 +8,7 @@ use Rattle.engine_spec.specs.declared.pins.Ckpt.TheVariants as checkpoint
 use Rattle.engine_spec.specs.declared.commits.Mode.TheVariants.{Concurrent}
 use Rattle.engine_spec.specs.declared.commits.CommitFault.{CommitFault}
 use Rattle.engine_spec.specs.declared.commits.CommitFault.TheVariants as fault
+use Rattle.engine_spec.specs.declared.commits.Receipt.{Receipt}
 use Rattle.page_lines.specs.declared.lines.Act.{Act}
 use Rattle.page_lines.specs.declared.lines.Act.TheVariants as act
 use Rattle.page_lines.specs.declared.lines.Told.{Told}
@@ -165,52 +166,64 @@ ReadOpen engine session page before after told transaction (Some bytes) = (told 
     × (after ≡ with_state before session (Open (after_own transaction page))) × (engine.new ≡ engine.old)
 ReadOpen engine session page before after told transaction None = FetchOpen engine session page before after told transaction
 
+-- What is asked of a transaction, by how its session stands: only one that is open does it.
+abbrev pub InTransaction : Between → List Seat → List Seat → Told → (Transaction → Type 0) → State → Type 0
+InTransaction engine before after told Asked Out = Same engine before after reply.NoTransaction told
+InTransaction engine before after told Asked (Open transaction) = Asked transaction
+InTransaction engine before after told Asked (Refused pin) = Same engine before after reply.MustRollBack told
+
 abbrev pub ReadActs : Between → ℕ → ℕ → List Seat → List Seat → Told → State → Type 0
-ReadActs engine session page before after told Out = Same engine before after reply.NoTransaction told
-ReadActs engine session page before after told (Open transaction) =
-    ReadOpen engine session page before after told transaction (image_of transaction.changed page)
-ReadActs engine session page before after told (Refused pin) = Same engine before after reply.MustRollBack told
+ReadActs engine session page before after told state = InTransaction engine before after told
+    (λ transaction. ReadOpen engine session page before after told transaction (image_of transaction.changed page)) state
 
 -- WRITE
-abbrev pub WriteActs : Between → ℕ → ℕ → ℕ → List Seat → List Seat → Told → State → Type 0
-WriteActs engine session page byte before after told Out = Same engine before after reply.NoTransaction told
-WriteActs engine session page byte before after told (Open transaction) = (told ≡ reply.Ok)
+abbrev pub WriteOpen : Between → ℕ → ℕ → ℕ → List Seat → List Seat → Told → Transaction → Type 0
+WriteOpen engine session page byte before after told transaction = (told ≡ reply.Ok)
     × (after ≡ with_state before session (Open (after_write engine.old.page_size transaction page byte)))
     × (engine.new ≡ engine.old)
-WriteActs engine session page byte before after told (Refused pin) = Same engine before after reply.MustRollBack told
 
--- COMMIT of an open transaction, by its answer
-abbrev pub CommitOpen : Between → ℕ → List Seat → List Seat → Transaction → Told → Type 0
-CommitOpen engine session before after transaction (reply.Done receipt) =
-    During engine.old (λ mid. (done : EngineState) × AcceptsCommit engine.opened mid (submitted_of before session transaction) receipt done
+abbrev pub WriteActs : Between → ℕ → ℕ → ℕ → List Seat → List Seat → Told → State → Type 0
+WriteActs engine session page byte before after told state =
+    InTransaction engine before after told (WriteOpen engine session page byte before after told) state
+
+-- What is told of a refused COMMIT. Want of memory ends the run, and page lines read no page whose form could be broken.
+abbrev pub told_of_refusal : CommitFault → Option Told
+told_of_refusal (fault.Stopped log at) = Some (reply.Stopped log at)
+told_of_refusal (fault.BusySnapshot page number) = Some (reply.Busy page number)
+told_of_refusal (fault.SizeLimit pages frames) = Some (reply.Size pages)
+told_of_refusal fault.Disk = Some reply.Disk
+told_of_refusal fault.Memory = None
+told_of_refusal (fault.Corrupt page) = None
+
+-- the session of a refused COMMIT stays in its transaction; where a page that it read was written since it has to roll it back
+abbrev pub state_refused : CommitFault → Transaction → State
+state_refused (fault.Stopped log at) transaction = Open transaction
+state_refused (fault.BusySnapshot page number) transaction = Refused transaction.pin
+state_refused (fault.SizeLimit pages frames) transaction = Open transaction
+state_refused fault.Memory transaction = Open transaction
+state_refused fault.Disk transaction = Open transaction
+state_refused (fault.Corrupt page) transaction = Open transaction
+
+-- COMMIT of an open transaction goes through
+abbrev pub CommitAccepted : Between → ℕ → List Seat → List Seat → Transaction → Told → Type 0
+CommitAccepted engine session before after transaction told = (receipt : Receipt) × (told ≡ reply.Done receipt)
+    × During engine.old (λ mid. (done : EngineState) × AcceptsCommit engine.opened mid (submitted_of before session transaction) receipt done
     × Ends done transaction.pin engine.new)
     × (after ≡ with_state before session Out)
-CommitOpen engine session before after transaction (reply.Busy page number) =
-    During engine.old
-    (λ mid. RefusesLines engine.opened mid (submitted_of before session transaction) (fault.BusySnapshot page number) engine.new)
-    × (after ≡ with_state before session (Refused transaction.pin))
-CommitOpen engine session before after transaction reply.Disk =
-    During engine.old (λ mid. RefusesLines engine.opened mid (submitted_of before session transaction) fault.Disk engine.new)
-    × (after ≡ before)
-CommitOpen engine session before after transaction (reply.Stopped log at) =
-    During engine.old (λ mid. RefusesLines engine.opened mid (submitted_of before session transaction) (fault.Stopped log at) engine.new)
-    × (after ≡ before)
-CommitOpen engine session before after transaction (reply.Size pages) =
-    ((frames : ℕ) × During engine.old
-    (λ mid. RefusesLines engine.opened mid (submitted_of before session transaction) (fault.SizeLimit pages frames) engine.new))
-    × (after ≡ before)
-CommitOpen engine session before after transaction reply.Ok = ⊥
-CommitOpen engine session before after transaction (reply.Byte byte) = ⊥
-CommitOpen engine session before after transaction reply.InTransaction = ⊥
-CommitOpen engine session before after transaction reply.NoTransaction = ⊥
-CommitOpen engine session before after transaction reply.MustRollBack = ⊥
-CommitOpen engine session before after transaction (reply.Ckpt answer) = ⊥
-CommitOpen engine session before after transaction (reply.Logs logs) = ⊥
+
+-- or is refused
+abbrev pub CommitRefused : Between → ℕ → List Seat → List Seat → Transaction → Told → Type 0
+CommitRefused engine session before after transaction told = (why : CommitFault) × (told_of_refusal why ≡ Some told)
+    × During engine.old (λ mid. RefusesLines engine.opened mid (submitted_of before session transaction) why engine.new)
+    × (after ≡ with_state before session (state_refused why transaction))
+
+abbrev pub CommitOpen : Between → ℕ → List Seat → List Seat → Transaction → Told → Type 0
+CommitOpen engine session before after transaction told =
+    CommitAccepted engine session before after transaction told ⊎ CommitRefused engine session before after transaction told
 
 abbrev pub CommitActs : Between → ℕ → List Seat → List Seat → Told → State → Type 0
-CommitActs engine session before after told Out = Same engine before after reply.NoTransaction told
-CommitActs engine session before after told (Open transaction) = CommitOpen engine session before after transaction told
-CommitActs engine session before after told (Refused pin) = Same engine before after reply.MustRollBack told
+CommitActs engine session before after told state =
+    InTransaction engine before after told (λ transaction. CommitOpen engine session before after transaction told) state
 
 -- ROLLBACK
 abbrev pub RollbackActs : Between → ℕ → List Seat → List Seat → Told → State → Type 0

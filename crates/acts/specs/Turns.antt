@@ -1,8 +1,7 @@
 -- What an act on one seat asks, how it bears on the list of seats, and what it leaves of an engine.
-use Rattle.std.specs.Prelude.{◌≡◌, ℕ, ◌≤◌, List, ◌++◌, Contains, All, Result, Ok, Err, alloc_error}
+use Rattle.std.specs.Prelude.{◌≡◌, ℕ, ◌≤◌, List, ◌++◌, Contains, All, Result, Ok, Err, alloc_error, Option, Some, None}
 use Rattle.std.specs.declared.alloc.AllocError.{AllocError}
 use Rattle.engine_spec.specs.declared.commits.CommitFault.{CommitFault}
-use Rattle.engine_spec.specs.declared.commits.CommitFault.TheVariants as fault
 use Rattle.page_lines.specs.declared.lines.Told.{Told}
 use Rattle.page_lines.specs.declared.lines.Told.TheVariants as reply
 use Rattle.page_spec.specs.PageMap.{PageMap}
@@ -21,7 +20,7 @@ use Rattle.acts.specs.declared.seats.State.TheVariants.{Out, Open, Refused}
 use Rattle.acts.specs.declared.seats.Transaction.{Transaction}
 use Rattle.acts.specs.declared.turns.Deed.{Deed}
 use Rattle.acts.specs.declared.turns.Deed.TheVariants.{Read, Write, Commit, Rollback}
-use Rattle.acts.specs.Pagers.{Between, seat_state, begun_of, with_state, new_transaction}
+use Rattle.acts.specs.Pagers.{Between, seat_state, begun_of, with_state, new_transaction, told_of_refusal, state_refused}
 
 -- the act of a session that asks this
 abbrev pub act_of : ℕ → Deed → Act
@@ -54,14 +53,14 @@ pub record SwapsPins {E M : Type 0} (told : Ghosts E M) (old : E) (olds : List P
   pub pages : (told.state old).size ≤ (told.state new).size
   pub page_size : (told.state new).page_size ≡ (told.state old).page_size
 
+-- what is told, or want of memory
+abbrev pub told_or_want : Option Told → Result Told AllocError
+told_or_want (Some told) = Ok told
+told_or_want None = Err alloc_error
+
 -- how a session stands after COMMIT of its transaction was refused, and what it is told
 abbrev pub StandsRefused : CommitFault → Transaction → State → Result Told AllocError → Type 0
-StandsRefused (fault.Stopped log at) transaction new told = (told ≡ Ok (reply.Stopped log at)) × (new ≡ Open transaction)
-StandsRefused (fault.BusySnapshot page number) transaction new told = (told ≡ Ok (reply.Busy page number)) × (new ≡ Refused transaction.pin)
-StandsRefused (fault.SizeLimit pages frames) transaction new told = (told ≡ Ok (reply.Size pages)) × (new ≡ Open transaction)
-StandsRefused fault.Memory transaction new told = (told ≡ Err alloc_error) × (new ≡ Open transaction)
-StandsRefused fault.Disk transaction new told = (told ≡ Ok reply.Disk) × (new ≡ Open transaction)
-StandsRefused (fault.Corrupt page) transaction new told = ⊥
+StandsRefused why transaction new told = (told ≡ told_or_want (told_of_refusal why)) × (new ≡ state_refused why transaction)
 
 -- a session has begun a transaction, which changed nothing else of the engine that is told
 abbrev pub SeatHasBegun : Between → Seat → Seat → Type 0

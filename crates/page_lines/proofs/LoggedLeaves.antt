@@ -192,7 +192,7 @@ commit_stop before session (Open transaction) = by_wrote transaction.wrote
     by_wrote false = refl
 commit_stop before session (Refused transaction) = refl
 
-step_stop : (before : LoggedWorld) (asked : Act) → (logged_step before asked).after.stopped ≡ before.stopped
+pub step_stop : (before : LoggedWorld) (asked : Act) → (logged_step before asked).after.stopped ≡ before.stopped
 step_stop before (act.Begin session) = begin_stop before session (before.world.sessions session)
 step_stop before (act.Read session page) = refl
 step_stop before (act.Write session page byte) = refl

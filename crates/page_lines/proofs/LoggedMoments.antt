@@ -25,7 +25,7 @@ moments_wider opening fewer maps among (Some old) (Some new) (since, more, is, t
   is,
   then,
   each_weaker opening.before (RecoversOneOf opening fewer) (RecoversOneOf opening maps)
-      (λ told image one chance. among _ (one chance)) (rebased opening.start (more ++ since)) _ each,
+      (λ told image one chance. (let left = one chance in among _ left.0, let left = one chance in left.1, let left = one chance in left.2)) (rebased opening.start (more ++ since)) _ each,
 )
 
 pub at_wider : (opened : Opening → Type 0) (fewer maps : List PageMap) → AreAmong fewer maps → (old new : Option History)

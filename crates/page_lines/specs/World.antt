@@ -175,20 +175,20 @@ begin_step world session Out = begin world session
 begin_step world session (Open transaction) = same world told.InTransaction
 begin_step world session (Refused transaction) = same world told.MustRollBack
 
+-- What is asked of a transaction, by how its session stands: only one that is open does it.
+abbrev pub in_transaction : World → (PageTransaction → Outcome) → SessionState → Outcome
+in_transaction world asked Out = same world told.NoTransaction
+in_transaction world asked (Open transaction) = asked transaction
+in_transaction world asked (Refused transaction) = same world told.MustRollBack
+
 abbrev pub read_step : World → ℕ → ℕ → SessionState → Outcome
-read_step world session page Out = same world told.NoTransaction
-read_step world session page (Open transaction) = read world session transaction page
-read_step world session page (Refused transaction) = same world told.MustRollBack
+read_step world session page state = in_transaction world (λ transaction. read world session transaction page) state
 
 abbrev pub write_step : World → ℕ → ℕ → ℕ → SessionState → Outcome
-write_step world session page byte Out = same world told.NoTransaction
-write_step world session page byte (Open transaction) = write world session transaction page byte
-write_step world session page byte (Refused transaction) = same world told.MustRollBack
+write_step world session page byte state = in_transaction world (λ transaction. write world session transaction page byte) state
 
 abbrev pub commit_step : World → ℕ → SessionState → Outcome
-commit_step world session Out = same world told.NoTransaction
-commit_step world session (Open transaction) = commit world session transaction
-commit_step world session (Refused transaction) = same world told.MustRollBack
+commit_step world session state = in_transaction world (λ transaction. commit world session transaction) state
 
 abbrev pub rollback_step : World → ℕ → SessionState → Outcome
 rollback_step world session Out = same world told.NoTransaction
