@@ -25,6 +25,8 @@ use Rattle.tree_scan.specs.Placing.{HasLevel}
 use Rattle.tree_scan.specs.Reads.{HasWalked}
 use Rattle.tree_scan.specs.Scanning.{IsLevel, AreLevels, KeepsComing, StaysThere, GivesNext, GivesItem, GivesNone, TakesNext, NoneInside, IsBarred}
 use Rattle.tree_scan.specs.Seeking.{IsSought, KeepsSought, StartsAt}
+use Rattle.tree_scan.specs.Walking.{IsStep, EndsWalk}
+use Rattle.tree_scan.proofs.Walks.{walk_one}
 use Rattle.tree_scan.proofs.Lasts.{count_last}
 use Rattle.tree_scan.proofs.Parts.{one_split}
 use Rattle.tree_scan.proofs.Seeks.{at_place, sought_found}
@@ -103,17 +105,19 @@ goes_up table pages old levels left passed reading are all spent world told boun
     (done_levels table pages old old world reading told passed (each_last (IsLevel table pages old) left passed (subst (Each (IsLevel table pages old)) are all)) spent)
     (subst (λ (l : List Level). Comes table (pages.usable old) bound (shown_over pages old world) height l own items) are comes)
 
-pub walked_up : {P : Type 0} (table : Bool) (pages : Ghosts P) (old : P) (levels left passed : List Level) → ReadsAtMost pages old old → levels ≡ left ++ passed
-    → Each (IsLevel table pages old) levels → Each IsSpent passed → HasWalked {T = Unit {0}} false table pages old levels left (Ok tt) old
-walked_up table pages old levels left passed reading are all spent = record {
+pub walked_up : {P : Type 0} (bounds : Bounds) (pages : Ghosts P) (old : P) (levels left passed : List Level) → ReadsAtMost pages old old → levels ≡ left ++ passed
+    → Each (IsLevel (of_table bounds) pages old) levels → Each IsSpent passed → HasWalked {T = Unit {0}} false bounds pages old levels left (Ok tt) old
+walked_up bounds pages old levels left passed reading are all spent = record {
   kept = [];
   again = [];
   read = refl;
   well = refl;
+  walk = λ world told. walk_one (pages.usable old) (pages.last_page old) (shown_over pages old world) false bounds levels [] left (IsStep.Up passed are spent refl);
+  end = λ world told. EndsWalk.AtEnd refl;
   of = λ world told bound height own items comes. record {
     own_then = own;
     items_then = items;
-    comes = goes_up table pages old levels left passed reading are all spent world told bound height own items comes;
+    comes = goes_up (of_table bounds) pages old levels left passed reading are all spent world told bound height own items comes;
     within = within_same own;
     next = within_none own;
   };

@@ -13,3 +13,4 @@ pub mod Calls
 pub mod Soundness
 pub mod Reading
 pub mod Splits
+pub mod Walks

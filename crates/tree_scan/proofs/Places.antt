@@ -257,7 +257,7 @@ refilled buf items len same whole =
     ∙ take-append-le len buf [] (omega (arith, same, whole)) ∙ take_all len buf (omega (arith, same, whole))
 
 -- A page that was read has its place.
-ends_old : {P : Type 0} (pages : Ghosts P) (old now : P) (F : ℕ → ℕ → Shown → Type 0) (world : View) → ReadsAtMost pages old now → pages.tells now world
+pub ends_old : {P : Type 0} (pages : Ghosts P) (old now : P) (F : ℕ → ℕ → Shown → Type 0) (world : View) → ReadsAtMost pages old now → pages.tells now world
     → F (pages.usable now) (pages.last_page now) (shown_over pages now world) → F (pages.usable old) (pages.last_page old) (shown_over pages old world)
 ends_old pages old now F world reading told is =
     subst (λ (u : ℕ). F u (pages.last_page old) (shown_over pages old world)) reading.edits.usable

@@ -1,6 +1,6 @@
 -- Which pages a cursor's calls read.
-use Rattle.std.proofs.Common.{◌≡◌, ℕ, ℤ, Bool, true, false, List, [], ◌∷◌, ◌++◌, Option, None, Some, Ok, Err, Result, refl, sym, subst, ap, ◌∙◌, append-nil}
-use Rattle.std.specs.Prelude.{not}
+use Rattle.std.proofs.Common.{◌≡◌, ℕ, ℤ, Bool, true, false, List, [], ◌∷◌, ◌++◌, Option, None, Some, Ok, Err, Result, refl, sym, subst, ap, ◌∙◌, append-nil, append_assoc}
+use Rattle.std.specs.Prelude.{◌⊎◌, not}
 use Rattle.page_spec.specs.View.{View}
 use Rattle.engine_spec.specs.declared.commits.FetchFault.{FetchFault}
 use Rattle.page_face.specs.declared.pages_tells.PagesTells.{Ghosts}
@@ -21,6 +21,9 @@ use Rattle.tree_scan.specs.Bounded.{of_table, may_look}
 use Rattle.tree_scan.specs.Coming.{Comes, gone_past}
 use Rattle.tree_scan.specs.Placing.{HasLevel, AreReadOf}
 use Rattle.tree_scan.specs.Reads.{NoOftener, TakesPages, ReadsOf, IsAhead, AreToRead, compares, LeavesToRead, HasReadAhead, LeavesAhead, HasWalked, HasStarted, HasTaken}
+use Rattle.tree_scan.specs.Walking.{IsWalk, AreOfNext, EndsWalk, IsFirstWalk, EndsFirstWalk, WalksOn, IsOnPath, BeginsBy, IsReadNext}
+use Rattle.tree_scan.proofs.Places.{ends_old}
+use Rattle.tree_scan.proofs.Walks.{first_walk, first_walk_on, walks_on}
 use Rattle.tree_scan.proofs.Paths.{start_reads}
 use Rattle.tree_scan.proofs.Shows.{to_old, to_now, looked_cells, read_of}
 use Rattle.tree_scan.proofs.Within.{within_none, within_same, within_then, within_last, within_on, within_join, takes_same, takes_exactly, takes_then, takes_on, takes_last, reads_exactly}
@@ -63,13 +66,28 @@ leaves : {T : Type 0} (usable last : ℕ) (shown : Shown) (height : ℕ) (cursor
 leaves usable last shown height cursor cursor_then begun own list result is left =
     subst (λ (looks : Bool). LeavesToRead usable last shown height looks own list result cursor_then) (compares_is cursor begun is) left
 
+-- What the pages are that were read: of a walk on, or of a call.
+abbrev IsReadOf : Cursor → (usable last : ℕ) → Shown → List ℕ → Type 0
+IsReadOf cursor usable last shown list = IsReadNext usable last shown cursor list
+
+abbrev WalksOf : Cursor → (usable last : ℕ) → Shown → List ℕ → Type 0
+WalksOf cursor usable last shown list = WalksOn usable last shown cursor.bounds cursor.levels.items list
+
 -- Where the walk fails.
 pub reads_walked : {P T : Type 0} (pages : Ghosts P) (old new : P) (cursor cursor_then : Cursor) (why : FetchFault) → cursor.begun ≡ true → cursor_then.begun ≡ true
-    → cursor_then.bounds ≡ cursor.bounds → HasWalked {T = Unit {0}} false (of_table cursor.bounds) pages old cursor.levels.items cursor_then.levels.items (Err why) new
-    → HasReadAhead {T = T} pages old cursor (Err why) cursor_then new
+    → cursor_then.bounds ≡ cursor.bounds → HasWalked {T = Unit {0}} false cursor.bounds pages old cursor.levels.items cursor_then.levels.items (Err why) new
+    → HasReadAhead {T = T} pages old (WalksOf cursor) cursor (Err why) cursor_then new
 reads_walked {T = T} pages old new cursor cursor_then why begun begun_then bounds walked = record {
   list = walked.kept ++ walked.again;
   read = walked.read;
+  are = λ world told. record {
+    levels_then = cursor_then.levels.items;
+    walked = walked.kept;
+    rest = walked.again;
+    walk = walked.walk world told;
+    ends = walked.end world told;
+    list_is = refl;
+  };
   of = λ world told bound height own ahead.
       let usable = pages.usable old in
       let shown = shown_over pages old world in
@@ -88,11 +106,15 @@ reads_walked {T = T} pages old new cursor cursor_then why begun begun_then bound
 -- where there is no item in the bounds, and the path is dropped
 pub reads_none : {P : Type 0} (pages : Ghosts P) (old now new : P) (cursor cursor_then : Cursor) (levels : List Level) → cursor.begun ≡ true → cursor_then.begun ≡ true
     → cursor_then.levels.items ≡ [] → ReadsAtMost pages old now → ReadsAtMost pages now new
-    → HasWalked {T = Unit {0}} false (of_table cursor.bounds) pages old cursor.levels.items levels (Ok tt) now
-    → HasTaken (of_table cursor.bounds) pages now levels (Ok None) new → HasReadAhead {T = Option (ℤ × List Value)} pages old cursor (Ok None) cursor_then new
+    → HasWalked {T = Unit {0}} false cursor.bounds pages old cursor.levels.items levels (Ok tt) now
+    → HasTaken (of_table cursor.bounds) pages now levels (Ok None) new → HasReadAhead {T = Option (ℤ × List Value)} pages old (WalksOf cursor) cursor (Ok None) cursor_then new
 reads_none pages old now new cursor cursor_then levels begun begun_then dropped reading more walked taken = record {
   list = walked.kept ++ taken.list;
   read = read_on pages old now new walked.kept walked.again taken.list reading walked.read walked.well taken.read;
+  are = λ world told.
+      let seen = more.edits.narrows world told in
+      walks_on (pages.usable old) (pages.last_page old) (shown_over pages old world) cursor.bounds cursor.levels.items walked.kept levels taken.list (walked.walk world seen)
+      (ends_old pages old now (λ u n s. (taken.list ≡ []) ⊎ AreOfNext u n s levels taken.list) world reading seen (taken.are world told));
   of = λ world told bound height own ahead.
       let usable = pages.usable old in
       let shown = shown_over pages old world in
@@ -115,11 +137,15 @@ reads_none pages old now new cursor cursor_then levels begun begun_then dropped 
 pub reads_some : {P : Type 0} (pages : Ghosts P) (old now new : P) (cursor cursor_then : Cursor) (levels : List Level) (pair : ℤ × List Value) → cursor.begun ≡ true
     → cursor_then.begun ≡ true → cursor_then.bounds ≡ cursor.bounds → ReadsAtMost pages old now → ReadsAtMost pages now new
     → ((above : List Level) (top : Level) → levels ≡ above ++ top ∷ [] → cursor_then.levels.items ≡ above ++ gone_past top ∷ [])
-    → HasWalked {T = Unit {0}} false (of_table cursor.bounds) pages old cursor.levels.items levels (Ok tt) now
-    → HasTaken (of_table cursor.bounds) pages now levels (Ok (Some pair)) new → HasReadAhead {T = Option (ℤ × List Value)} pages old cursor (Ok (Some pair)) cursor_then new
+    → HasWalked {T = Unit {0}} false cursor.bounds pages old cursor.levels.items levels (Ok tt) now
+    → HasTaken (of_table cursor.bounds) pages now levels (Ok (Some pair)) new → HasReadAhead {T = Option (ℤ × List Value)} pages old (WalksOf cursor) cursor (Ok (Some pair)) cursor_then new
 reads_some pages old now new cursor cursor_then levels pair begun begun_then bounds reading more stepped walked taken = record {
   list = walked.kept ++ taken.list;
   read = read_on pages old now new walked.kept walked.again taken.list reading walked.read walked.well taken.read;
+  are = λ world told.
+      let seen = more.edits.narrows world told in
+      walks_on (pages.usable old) (pages.last_page old) (shown_over pages old world) cursor.bounds cursor.levels.items walked.kept levels taken.list (walked.walk world seen)
+      (ends_old pages old now (λ u n s. (taken.list ≡ []) ⊎ AreOfNext u n s levels taken.list) world reading seen (taken.are world told));
   of = λ world told bound height own ahead.
       let usable = pages.usable old in
       let shown = shown_over pages old world in
@@ -144,11 +170,15 @@ reads_some pages old now new cursor cursor_then levels pair begun begun_then bou
 -- where it is no row
 pub reads_fault : {P : Type 0} (pages : Ghosts P) (old now new : P) (cursor cursor_then : Cursor) (why : FetchFault) → cursor.begun ≡ true → cursor_then.begun ≡ true
     → cursor_then.bounds ≡ cursor.bounds → ReadsAtMost pages old now → ReadsAtMost pages now new
-    → HasWalked {T = Unit {0}} false (of_table cursor.bounds) pages old cursor.levels.items cursor_then.levels.items (Ok tt) now
-    → HasTaken (of_table cursor.bounds) pages now cursor_then.levels.items (Err why) new → HasReadAhead {T = Option (ℤ × List Value)} pages old cursor (Err why) cursor_then new
+    → HasWalked {T = Unit {0}} false cursor.bounds pages old cursor.levels.items cursor_then.levels.items (Ok tt) now
+    → HasTaken (of_table cursor.bounds) pages now cursor_then.levels.items (Err why) new → HasReadAhead {T = Option (ℤ × List Value)} pages old (WalksOf cursor) cursor (Err why) cursor_then new
 reads_fault pages old now new cursor cursor_then why begun begun_then bounds reading more walked taken = record {
   list = walked.kept ++ taken.list;
   read = read_on pages old now new walked.kept walked.again taken.list reading walked.read walked.well taken.read;
+  are = λ world told.
+      let seen = more.edits.narrows world told in
+      walks_on (pages.usable old) (pages.last_page old) (shown_over pages old world) cursor.bounds cursor.levels.items walked.kept cursor_then.levels.items taken.list (walked.walk world seen)
+      (ends_old pages old now (λ u n s. (taken.list ≡ []) ⊎ AreOfNext u n s cursor_then.levels.items taken.list) world reading seen (taken.are world told));
   of = λ world told bound height own ahead.
       let usable = pages.usable old in
       let shown = shown_over pages old world in
@@ -171,20 +201,22 @@ reads_fault pages old now new cursor cursor_then why begun begun_then bounds rea
 pub started_root : {P T : Type 0} (pages : Ghosts P) (old new : P) (bounds : Bounds) (root : ℕ) (levels : List Level) (why : FetchFault) (list : List ℕ)
     → pages.reads new ≡ all_read (pages.has old) (pages.reads old) list
     → ((world : View) → pages.tells new world → AreReadOf (pages.usable old) (pages.last_page old) (shown_over pages old world) (may_look true bounds) root list)
-    → HasStarted {T = T} (may_look true bounds) (of_table bounds) pages old root levels (Err why) new
+    → HasStarted {T = T} bounds pages old root levels (Err why) new
 started_root pages old new bounds root levels why list read are = record {
   list = list;
   read = read;
+  are = λ world told. EndsFirstWalk.AtRoot (are world told);
   of = λ world told bound height own items tree.
       read_of true bounds (pages.usable old) bound (pages.last_page old) (shown_over pages old world) height root tree.node tree.below [] own items list tree.holds tree.content
       (tree.own_is ∙ ap (λ (l : List ℕ). root ∷ l) (sym (append-nil tree.below))) (are world told);
 }
 
 pub started_level : {P T : Type 0} (pages : Ghosts P) (old new : P) (bounds : Bounds) (root : ℕ) (level : Level) (levels : List Level) (done : T)
-    → HasLevel pages old true bounds root 0 level new → levels ≡ level ∷ [] → HasStarted (may_look true bounds) (of_table bounds) pages old root levels (Ok done) new
+    → HasLevel pages old true bounds root 0 level new → levels ≡ level ∷ [] → HasStarted bounds pages old root levels (Ok done) new
 started_level pages old new bounds root level levels done has are = record {
   list = root ∷ has.list;
   read = has.read;
+  are = first_walk pages old new bounds root level levels has are;
   of = λ world told bound height own items tree.
       let usable = pages.usable old in
       let shown = shown_over pages old world in
@@ -196,45 +228,66 @@ started_level pages old new bounds root level levels done has are = record {
       (subst (λ (n : Node). Content (of_table bounds) usable bound shown height n tree.below items) same tree.content) (has.are world told)));
 }
 
-pub started_way : {P T U : Type 0} (looks table : Bool) (pages : Ghosts P) (old now new : P) (root : ℕ) (pushed levels : List Level) (done : T) (result : Result U FetchFault)
-    → ReadsAtMost pages old now → ReadsAtMost pages now new → HasStarted looks table pages old root pushed (Ok done) now → HasWalked looks table pages now pushed levels result new
-    → HasStarted looks table pages old root levels result new
-started_way looks table pages old now new root pushed levels done (Ok other) reading more first walked = record {
+-- the first walk goes on
+gone : {P : Type 0} (bounds : Bounds) (pages : Ghosts P) (old now new : P) (root : ℕ) (pushed levels : List Level) (list more_list : List ℕ) → ReadsAtMost pages old now
+    → ReadsAtMost pages now new
+    → ((world : View) → pages.tells now world → IsFirstWalk (pages.usable old) (pages.last_page old) (shown_over pages old world) bounds root list pushed)
+    → ((world : View) → pages.tells new world → IsWalk (pages.usable now) (pages.last_page now) (shown_over pages now world) true bounds pushed more_list levels)
+    → (world : View) → pages.tells new world → IsFirstWalk (pages.usable old) (pages.last_page old) (shown_over pages old world) bounds root (list ++ more_list) levels
+gone bounds pages old now new root pushed levels list more_list reading more first walk world told =
+    let seen = more.edits.narrows world told in
+    first_walk_on (pages.usable old) (pages.last_page old) (shown_over pages old world) bounds root list pushed more_list levels (first world seen)
+    (ends_old pages old now (λ u n s. IsWalk u n s true bounds pushed more_list levels) world reading seen (walk world told))
+
+pub started_way : {P T U : Type 0} (bounds : Bounds) (pages : Ghosts P) (old now new : P) (root : ℕ) (pushed levels : List Level) (done : T) (result : Result U FetchFault)
+    → ReadsAtMost pages old now → ReadsAtMost pages now new → HasStarted bounds pages old root pushed (Ok done) now → HasWalked true bounds pages now pushed levels result new
+    → HasStarted bounds pages old root levels result new
+started_way bounds pages old now new root pushed levels done (Ok other) reading more first walked = record {
   list = first.list ++ walked.kept;
   read = read_both (pages.has old) (pages.has now) (pages.reads old) (pages.reads now) (pages.reads new) first.list walked.kept reading.has first.read
       (walked.read ∙ ap (λ (l : List ℕ). all_read (pages.has now) (pages.reads now) l) (ap (λ (l : List ℕ). walked.kept ++ l) walked.well ∙ append-nil walked.kept));
+  are = gone bounds pages old now new root pushed levels first.list walked.kept reading more first.are walked.walk;
   of = λ world told bound height own items tree.
       let seen = more.edits.narrows world told in
       let left = first.of world seen bound height own items tree in
       let then_is = walked.of world told bound height left.own_then left.items_then
-      (to_now pages old now (λ (u : ℕ) (s : Shown). Comes table u bound s height pushed left.own_then left.items_then) world reading seen left.comes) in
+      (to_now pages old now (λ (u : ℕ) (s : Shown). Comes (of_table bounds) u bound s height pushed left.own_then left.items_then) world reading seen left.comes) in
       record {
         own_then = then_is.own_then;
         items_then = then_is.items_then;
-        comes = to_old pages old now (λ (u : ℕ) (s : Shown). Comes table u bound s height levels then_is.own_then then_is.items_then) world reading seen then_is.comes;
-        within = takes_then looks first.list walked.kept then_is.own_then left.own_then own left.within then_is.within;
-        next = reads_exactly looks then_is.own_then [] (within_none then_is.own_then);
+        comes = to_old pages old now (λ (u : ℕ) (s : Shown). Comes (of_table bounds) u bound s height levels then_is.own_then then_is.items_then) world reading seen then_is.comes;
+        within = takes_then (may_look true bounds) first.list walked.kept then_is.own_then left.own_then own left.within then_is.within;
+        next = reads_exactly (may_look true bounds) then_is.own_then [] (within_none then_is.own_then);
       };
 }
-started_way looks table pages old now new root pushed levels done (Err why) reading more first walked = record {
+started_way bounds pages old now new root pushed levels done (Err why) reading more first walked = record {
   list = first.list ++ (walked.kept ++ walked.again);
   read = read_both (pages.has old) (pages.has now) (pages.reads old) (pages.reads now) (pages.reads new) first.list (walked.kept ++ walked.again) reading.has first.read walked.read;
+  are = λ world told. EndsFirstWalk.OnWay levels (first.list ++ walked.kept) walked.again
+      (gone bounds pages old now new root pushed levels first.list walked.kept reading more first.are walked.walk world told)
+      (ends_old pages old now (λ u n s. EndsWalk u n s true bounds levels walked.again) world reading (more.edits.narrows world told) (walked.end world told))
+      (sym (append_assoc first.list walked.kept walked.again));
   of = λ world told bound height own items tree.
       let seen = more.edits.narrows world told in
       let left = first.of world seen bound height own items tree in
       let then_is = walked.of world told bound height left.own_then left.items_then
-      (to_now pages old now (λ (u : ℕ) (s : Shown). Comes table u bound s height pushed left.own_then left.items_then) world reading seen left.comes) in
-      takes_on looks first.list left.own_then (walked.kept ++ walked.again) own left.within
-      (takes_on looks walked.kept then_is.own_then walked.again left.own_then then_is.within then_is.next);
+      (to_now pages old now (λ (u : ℕ) (s : Shown). Comes (of_table bounds) u bound s height pushed left.own_then left.items_then) world reading seen left.comes) in
+      takes_on (may_look true bounds) first.list left.own_then (walked.kept ++ walked.again) own left.within
+      (takes_on (may_look true bounds) walked.kept then_is.own_then walked.again left.own_then then_is.within then_is.next);
 }
 
 -- Before a cursor has begun.
+abbrev StartsOf : {T : Type 0} → Cursor → Result T FetchFault → Cursor → (usable last : ℕ) → Shown → List ℕ → Type 0
+StartsOf cursor result cursor_then usable last shown list = BeginsBy usable last shown cursor result cursor_then list
+
 pub reads_started : {P : Type 0} (pages : Ghosts P) (old new : P) (cursor cursor_then : Cursor) → cursor.begun ≡ false → cursor_then.begun ≡ true → cursor_then.bounds ≡ cursor.bounds
-    → HasStarted {T = Unit {0}} (may_look true cursor.bounds) (of_table cursor.bounds) pages old cursor.root cursor_then.levels.items (Ok tt) new
-    → HasReadAhead {T = Unit {0}} pages old cursor (Ok tt) cursor_then new
+    → HasStarted {T = Unit {0}} cursor.bounds pages old cursor.root cursor_then.levels.items (Ok tt) new
+    → HasReadAhead {T = Unit {0}} pages old (StartsOf {T = Unit {0}} cursor (Ok tt) cursor_then) cursor (Ok tt) cursor_then new
 reads_started pages old new cursor cursor_then begun begun_then bounds started = record {
   list = started.list;
   read = started.read;
+  are = λ world told.
+      subst (λ (b : Bool). IsOnPath b (pages.usable old) (pages.last_page old) (shown_over pages old world) cursor started.list cursor_then.levels.items) (sym begun) (started.are world told);
   of = λ world told bound height own ahead.
       let usable = pages.usable old in
       let shown = shown_over pages old world in
@@ -252,11 +305,12 @@ reads_started pages old new cursor cursor_then begun begun_then bounds started =
 
 pub reads_refused : {P : Type 0} (pages : Ghosts P) (old new : P) (cursor cursor_then : Cursor) (why : FetchFault) → cursor.begun ≡ false → cursor_then.begun ≡ false
     → cursor_then.bounds ≡ cursor.bounds → cursor_then.root ≡ cursor.root
-    → HasStarted {T = Unit {0}} (may_look true cursor.bounds) (of_table cursor.bounds) pages old cursor.root cursor_then.levels.items (Err why) new
-    → HasReadAhead {T = Unit {0}} pages old cursor (Err why) cursor_then new
+    → HasStarted {T = Unit {0}} cursor.bounds pages old cursor.root cursor_then.levels.items (Err why) new
+    → HasReadAhead {T = Unit {0}} pages old (StartsOf {T = Unit {0}} cursor (Err why) cursor_then) cursor (Err why) cursor_then new
 reads_refused pages old new cursor cursor_then why begun begun_then bounds root started = record {
   list = started.list;
   read = started.read;
+  are = λ world told. (begun, started.are world told);
   of = λ world told bound height own ahead.
       let usable = pages.usable old in
       let shown = shown_over pages old world in
@@ -272,18 +326,34 @@ reads_refused pages old new cursor cursor_then why begun begun_then bounds root 
       );
 }
 
-pub reads_nothing : {P T : Type 0} (pages : Ghosts P) (old : P) (cursor : Cursor) (done : T) → HasReadAhead pages old cursor (Ok done) cursor old
-reads_nothing pages old cursor done = record {
+pub reads_nothing : {P : Type 0} (pages : Ghosts P) (old : P) (cursor : Cursor) → cursor.begun ≡ true
+    → HasReadAhead {T = Unit {0}} pages old (StartsOf {T = Unit {0}} cursor (Ok tt) cursor) cursor (Ok tt) cursor old
+reads_nothing pages old cursor begun = record {
   list = [];
   read = refl;
+  are = λ world told.
+      subst (λ (b : Bool). IsOnPath b (pages.usable old) (pages.last_page old) (shown_over pages old world) cursor [] cursor.levels.items) (sym begun) (refl, refl);
   of = λ world told bound height own ahead. (own, (ahead, takes_same (compares cursor) own));
 }
 
-pub refused_nothing : {P T : Type 0} (pages : Ghosts P) (old : P) (cursor : Cursor) (why : FetchFault) → HasReadAhead {T = T} pages old cursor (Err why) cursor old
-refused_nothing pages old cursor why = record {
+pub refused_nothing : {P : Type 0} (pages : Ghosts P) (old : P) (cursor : Cursor) (why : FetchFault) → cursor.begun ≡ false
+    → HasReadAhead {T = Unit {0}} pages old (StartsOf {T = Unit {0}} cursor (Err why) cursor) cursor (Err why) cursor old
+refused_nothing pages old cursor why begun = record {
   list = [];
   read = refl;
+  are = λ world told. (begun, EndsFirstWalk.AtRoot (AreReadOf.Nothing refl));
   of = λ world told bound height own ahead. (own, (ahead, (reads_exactly (compares cursor) own [] (within_none own), within_same own)));
+}
+
+-- what a call read that was refused as it began
+pub reads_starting : {P : Type 0} (pages : Ghosts P) (old new : P) (cursor cursor_then : Cursor) (why : FetchFault)
+    → HasReadAhead {T = Unit {0}} pages old (StartsOf {T = Unit {0}} cursor (Err why) cursor_then) cursor (Err why) cursor_then new
+    → HasReadAhead {T = Option (ℤ × List Value)} pages old (IsReadOf cursor) cursor (Err why) cursor_then new
+reads_starting pages old new cursor cursor_then why first = record {
+  list = first.list;
+  read = first.read;
+  are = λ world told. IsReadNext.Starting (first.are world told).0 (first.are world told).1;
+  of = first.of;
 }
 
 -- From call to call: once begun, a cursor compares nothing.
@@ -294,12 +364,25 @@ exact_takes looks begun bounds own list still is takes =
 exact_reads : (looks : Bool) (begun : Bool) (bounds : Bounds) (own list : List ℕ) → begun ≡ true → ReadsOf (may_look (not begun) bounds) own list → ReadsOf looks own list
 exact_reads looks begun bounds own list is reads = reads_exactly looks own list (subst (λ (b : Bool). ReadsOf (may_look (not b) bounds) own list) is reads)
 
-pub reads_join : {P T U : Type 0} (pages : Ghosts P) (old now new : P) (first second third : Cursor) (done : T) (result : Result U FetchFault) → ReadsAtMost pages old now
-    → ReadsAtMost pages now new → second.begun ≡ true → HasReadAhead pages old first (Ok done) second now → HasReadAhead pages now second result third new
-    → HasReadAhead pages old first result third new
-reads_join pages old now new first second third done (Ok found) reading more begun one two = record {
+joined : {P : Type 0} (pages : Ghosts P) (old now new : P) (first second : Cursor) (one two : List ℕ) → ReadsAtMost pages old now → ReadsAtMost pages now new
+    → second.bounds ≡ first.bounds
+    → ((world : View) → pages.tells now world → StartsOf {T = Unit {0}} first (Ok tt) second (pages.usable old) (pages.last_page old) (shown_over pages old world) one)
+    → ((world : View) → pages.tells new world → WalksOf second (pages.usable now) (pages.last_page now) (shown_over pages now world) two)
+    → (world : View) → pages.tells new world → IsReadOf first (pages.usable old) (pages.last_page old) (shown_over pages old world) (one ++ two)
+joined pages old now new first second one two reading more bounds starts goes world told =
+    let seen = more.edits.narrows world told in
+    IsReadNext.Going second.levels.items one two (starts world seen)
+    (subst (λ (b : Bounds). WalksOn (pages.usable old) (pages.last_page old) (shown_over pages old world) b second.levels.items two) bounds
+    (ends_old pages old now (λ u n s. WalksOn u n s second.bounds second.levels.items two) world reading seen (goes world told))) refl
+
+pub reads_join : {P U : Type 0} (pages : Ghosts P) (old now new : P) (first second third : Cursor) (result : Result U FetchFault) → ReadsAtMost pages old now
+    → ReadsAtMost pages now new → second.begun ≡ true → second.bounds ≡ first.bounds
+    → HasReadAhead {T = Unit {0}} pages old (StartsOf {T = Unit {0}} first (Ok tt) second) first (Ok tt) second now → HasReadAhead pages now (WalksOf second) second result third new
+    → HasReadAhead pages old (IsReadOf first) first result third new
+reads_join pages old now new first second third (Ok found) reading more begun bounds one two = record {
   list = one.list ++ two.list;
   read = read_both (pages.has old) (pages.has now) (pages.reads old) (pages.reads now) (pages.reads new) one.list two.list reading.has one.read two.read;
+  are = joined pages old now new first second one.list two.list reading more bounds one.are two.are;
   of = λ world told bound height own ahead.
       let seen = more.edits.narrows world told in
       let middle = one.of world seen bound height own ahead in
@@ -312,9 +395,10 @@ reads_join pages old now new first second third done (Ok found) reading more beg
         ),
       );
 }
-reads_join pages old now new first second third done (Err why) reading more begun one two = record {
+reads_join pages old now new first second third (Err why) reading more begun bounds one two = record {
   list = one.list ++ two.list;
   read = read_both (pages.has old) (pages.has now) (pages.reads old) (pages.reads now) (pages.reads new) one.list two.list reading.has one.read two.read;
+  are = joined pages old now new first second one.list two.list reading more bounds one.are two.are;
   of = λ world told bound height own ahead.
       let seen = more.edits.narrows world told in
       let middle = one.of world seen bound height own ahead in

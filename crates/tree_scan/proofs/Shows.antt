@@ -33,6 +33,9 @@ use Rattle.tree_scan.specs.Reads.{StandIn, ReadsOf, LeavesAhead, HasWalked}
 use Rattle.tree_scan.proofs.Lasts.{at_last, count_last, same_last}
 use Rattle.tree_scan.proofs.Cells.{cells_read}
 use Rattle.tree_scan.proofs.Seeks.{sought_down}
+use Rattle.tree_scan.specs.Walking.{IsWalk, EndsWalk}
+use Rattle.tree_scan.proofs.Places.{ends_old}
+use Rattle.tree_scan.proofs.Walks.{walk_none, walk_join, walk_down}
 use Rattle.tree_scan.proofs.Within.{within_none, takes_same, takes_then, reads_exactly, reads_page}
 use Rattle.tree_scan.proofs.Paths.{IsDone, AtChild, NextChild, go_child, down, down_reads, next_child}
 
@@ -294,12 +297,15 @@ looked_cells true (Entries low high) usable last most shown height node below it
 pub child_walked : {P : Type 0} (pages : Ghosts P) (old new : P) (seek : Bool) (bounds : Bounds) (levels levels_then : List Level) (top child : Level) (page depth : ℕ)
     → ReadsAtMost pages old new → (is : TopIs (of_table bounds) pages old levels top) → Inner pages old top page → HasLevel pages old seek bounds page depth child new
     → levels_then ≡ is.above ++ gone_below (of_table bounds) top ∷ child ∷ []
-    → HasWalked {T = Unit {0}} (may_look seek bounds) (of_table bounds) pages old levels levels_then (Ok tt) new
+    → HasWalked {T = Unit {0}} seek bounds pages old levels levels_then (Ok tt) new
 child_walked pages old new seek bounds levels levels_then top child page depth reading is inner has are = record {
   kept = page ∷ has.list;
   again = [];
   read = has.read ∙ ap (λ (l : List ℕ). all_read (pages.has old) (pages.reads old) l) (sym (append-nil (page ∷ has.list)));
   well = refl;
+  walk = λ world told. walk_down pages old new seek bounds levels levels_then is.above top child page depth is.are has are world told
+      (names_next (of_table bounds) pages old levels top page is inner world (reading.edits.narrows world told));
+  end = λ world told. EndsWalk.AtEnd refl;
   of = λ world told bound height own items comes.
       let found = child_of pages old new seek bounds levels levels_then top child page depth reading is inner has are world told bound height own items comes in
       subst (λ (p : ℕ). LeavesAhead (of_table bounds) (pages.usable old) bound (shown_over pages old world) height levels_then (may_look seek bounds) own (p ∷ has.list) []) has.page_is
@@ -310,19 +316,21 @@ child_walked pages old new seek bounds levels levels_then top child page depth r
 }
 
 -- where it fails it read nothing
-pub unread : {P : Type 0} (looks table : Bool) (pages : Ghosts P) (old new : P) (levels : List Level) (why : FetchFault) → pages.reads new ≡ pages.reads old
-    → HasWalked {T = Unit {0}} looks table pages old levels levels (Err why) new
-unread looks table pages old new levels why none = record {
+pub unread : {P : Type 0} (seek : Bool) (bounds : Bounds) (pages : Ghosts P) (old new : P) (levels : List Level) (why : FetchFault) → pages.reads new ≡ pages.reads old
+    → HasWalked {T = Unit {0}} seek bounds pages old levels levels (Err why) new
+unread seek bounds pages old new levels why none = record {
   kept = [];
   again = [];
   read = none;
   well = tt;
+  walk = λ world told. walk_none (pages.usable old) (pages.last_page old) (shown_over pages old world) seek bounds levels;
+  end = λ world told. EndsWalk.AtEnd refl;
   of = λ world told bound height own items comes. record {
     own_then = own;
     items_then = items;
     comes = comes;
-    within = takes_same looks own;
-    next = reads_exactly looks own [] (within_none own);
+    within = takes_same (may_look seek bounds) own;
+    next = reads_exactly (may_look seek bounds) own [] (within_none own);
   };
 }
 
@@ -353,12 +361,14 @@ pub child_failed : {P : Type 0} (pages : Ghosts P) (old new : P) (seek : Bool) (
     → ReadsAtMost pages old new → TopIs (of_table bounds) pages old levels top → Inner pages old top page → (list : List ℕ)
     → pages.reads new ≡ all_read (pages.has old) (pages.reads old) list
     → ((world : View) → pages.tells new world → AreReadOf (pages.usable old) (pages.last_page old) (shown_over pages old world) (may_look seek bounds) page list)
-    → HasWalked {T = Unit {0}} (may_look seek bounds) (of_table bounds) pages old levels levels (Err why) new
+    → HasWalked {T = Unit {0}} seek bounds pages old levels levels (Err why) new
 child_failed pages old new seek bounds levels top page depth why reading is inner list read are = record {
   kept = [];
   again = list;
   read = read;
   well = tt;
+  walk = λ world told. walk_none (pages.usable old) (pages.last_page old) (shown_over pages old world) seek bounds levels;
+  end = λ world told. EndsWalk.AtChild top page (names_next (of_table bounds) pages old levels top page is inner world (reading.edits.narrows world told)) (are world told);
   of = λ world told bound height own items comes.
       let next = next_of pages old new bounds levels top page reading is inner world told bound height own items comes in
       record {
@@ -426,41 +436,49 @@ barred_before pages old now then Breaks (fault.Corrupt page) reading more bars =
 barred_before pages old now then Breaks (fault.Size count) reading more bars = bars
 barred_before pages old now then Breaks fault.Memory reading more bars = tt
 
-pub walked_join : {P T U : Type 0} (looks table : Bool) (pages : Ghosts P) (old now then : P) (a b c : List Level) (done : T) (result : Result U FetchFault) → ReadsAtMost pages old now
-    → ReadsAtMost pages now then → HasWalked looks table pages old a b (Ok done) now → HasWalked looks table pages now b c result then → HasWalked looks table pages old a c result then
-walked_join looks table pages old now then a b c done result reading more one two = record {
+pub walked_join : {P T U : Type 0} (seek : Bool) (bounds : Bounds) (pages : Ghosts P) (old now then : P) (a b c : List Level) (done : T) (result : Result U FetchFault)
+    → ReadsAtMost pages old now → ReadsAtMost pages now then → HasWalked seek bounds pages old a b (Ok done) now → HasWalked seek bounds pages now b c result then
+    → HasWalked seek bounds pages old a c result then
+walked_join seek bounds pages old now then a b c done result reading more one two = record {
   kept = one.kept ++ two.kept;
   again = two.again;
   read = read_both (pages.has old) (pages.has now) (pages.reads old) (pages.reads now) (pages.reads then) one.kept (two.kept ++ two.again) reading.has
       (one.read ∙ ap (λ (l : List ℕ). all_read (pages.has old) (pages.reads old) l) (ap (λ (l : List ℕ). one.kept ++ l) one.well ∙ append-nil one.kept)) two.read
       ∙ ap (λ (l : List ℕ). all_read (pages.has old) (pages.reads old) l) (sym (append_assoc one.kept two.kept two.again));
   well = two.well;
+  walk = λ world told.
+      let before = more.edits.narrows world told in
+      walk_join (pages.usable old) (pages.last_page old) (shown_over pages old world) seek bounds a one.kept b two.kept c (one.walk world before)
+      (ends_old pages old now (λ u n s. IsWalk u n s seek bounds b two.kept c) world reading before (two.walk world told));
+  end = λ world told. ends_old pages old now (λ u n s. EndsWalk u n s seek bounds c two.again) world reading (more.edits.narrows world told) (two.end world told);
   of = λ world told bound height own items comes.
       let before = more.edits.narrows world told in
       let first = one.of world before bound height own items comes in
       let then_is = two.of world told bound height first.own_then first.items_then
-      (to_now pages old now (λ (u : ℕ) (s : Shown). Comes table u bound s height b first.own_then first.items_then) world reading before first.comes) in
+      (to_now pages old now (λ (u : ℕ) (s : Shown). Comes (of_table bounds) u bound s height b first.own_then first.items_then) world reading before first.comes) in
       record {
         own_then = then_is.own_then;
         items_then = then_is.items_then;
-        comes = to_old pages old now (λ (u : ℕ) (s : Shown). Comes table u bound s height c then_is.own_then then_is.items_then) world reading before then_is.comes;
-        within = takes_then looks one.kept two.kept then_is.own_then first.own_then own first.within then_is.within;
+        comes = to_old pages old now (λ (u : ℕ) (s : Shown). Comes (of_table bounds) u bound s height c then_is.own_then then_is.items_then) world reading before then_is.comes;
+        within = takes_then (may_look seek bounds) one.kept two.kept then_is.own_then first.own_then own first.within then_is.within;
         next = then_is.next;
       };
 }
 
 -- nothing was read
-pub walked_still : {P : Type 0} (looks table : Bool) (pages : Ghosts P) (old : P) (levels : List Level) → HasWalked {T = Unit {0}} looks table pages old levels levels (Ok tt) old
-walked_still looks table pages old levels = record {
+pub walked_still : {P : Type 0} (seek : Bool) (bounds : Bounds) (pages : Ghosts P) (old : P) (levels : List Level) → HasWalked {T = Unit {0}} seek bounds pages old levels levels (Ok tt) old
+walked_still seek bounds pages old levels = record {
   kept = [];
   again = [];
   read = refl;
   well = refl;
+  walk = λ world told. walk_none (pages.usable old) (pages.last_page old) (shown_over pages old world) seek bounds levels;
+  end = λ world told. EndsWalk.AtEnd refl;
   of = λ world told bound height own items comes. record {
     own_then = own;
     items_then = items;
     comes = comes;
-    within = takes_same looks own;
-    next = reads_exactly looks own [] (within_none own);
+    within = takes_same (may_look seek bounds) own;
+    next = reads_exactly (may_look seek bounds) own [] (within_none own);
   };
 }

@@ -170,8 +170,8 @@ root_barred pages old new bounds root levels fault.Memory bars = tt
 
 pub way_fails : {P : Type 0} (pages : Ghosts P) (old now new : P) (bounds : Bounds) (root : ℕ) (level : Level) (pushed levels : List Level) (why : FetchFault) → ReadsAtMost pages old now
     → ReadsAtMost pages now new → HasLevel pages old true bounds root 0 level now → pushed ≡ level ∷ []
-    → HasStarted {T = Unit {0}} (may_look true bounds) (of_table bounds) pages old root pushed (Ok tt) now
-    → HasWalked {T = Unit {0}} (may_look true bounds) (of_table bounds) pages now pushed levels (Err why) new → KeepsSought pages now bounds pushed levels new
+    → HasStarted {T = Unit {0}} bounds pages old root pushed (Ok tt) now
+    → HasWalked {T = Unit {0}} true bounds pages now pushed levels (Err why) new → KeepsSought pages now bounds pushed levels new
     → IsBarred pages now new (λ (shown : Shown). BreaksDown (pages.usable now) (pages.last_page now) shown true bounds levels) why → FailsStart pages old bounds root why new
 way_fails pages old now new bounds root level pushed levels fault.Disk reading more has are started walked keeps bars =
     λ items ahead there from. rose_before _ _ _ reading.edits.faults bars

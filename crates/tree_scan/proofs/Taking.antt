@@ -17,8 +17,9 @@ use Rattle.overflow.proofs.Chains.{whole_chain, chain_rest}
 use Rattle.value_form.specs.declared.value.Value.{Value}
 use Rattle.value_form.specs.Record.{IsRecord}
 use Rattle.value_form.proofs.ReadingLaws.{record_once}
-use Rattle.tree_read.specs.Payloads.{chain_size, IsFollowed, BreaksPayload, EndsWithRow, HasReadRow}
+use Rattle.tree_read.specs.Payloads.{AreOfChain, chain_size, IsFollowed, BreaksPayload, EndsWithRow, HasReadRow}
 use Rattle.tree_read.proofs.Levels.{not_both}
+use Rattle.tree_read.proofs.Payloads.{of_chain}
 use Rattle.tree_read.proofs.Trees.{whole_payload}
 use Rattle.tree_scan.specs.declared.bounds.Bounds.{Bounds}
 use Rattle.tree_scan.specs.declared.bounds.Bounds.TheVariants.{Rows, Entries}
@@ -27,6 +28,8 @@ use Rattle.tree_scan.specs.Bounded.{of_table, number_of_row, IsOver, IsRowidOver
 use Rattle.tree_scan.specs.Coming.{Comes, IsSpent, gone_past}
 use Rattle.tree_scan.specs.Scanning.{IsBarred, BreaksNextRow, TakesNext, NoneInside}
 use Rattle.tree_scan.specs.Reads.{NoOftener, HasTaken, TakesAhead}
+use Rattle.tree_scan.specs.Walking.{AreOfNext}
+use Rattle.tree_scan.proofs.Walks.{chain_of}
 use Rattle.tree_scan.proofs.Shows.{TopIs, not_all}
 use Rattle.tree_scan.proofs.Paths.{TakenOne, take_one}
 use Rattle.tree_scan.proofs.Within.{within_none, within_same, within_is, within_front}
@@ -78,7 +81,7 @@ first_over pages old levels top bounds at over = λ world told bound height own 
 
 -- nothing is read then
 pub none_taken : {P : Type 0} (table : Bool) (pages : Ghosts P) (old : P) (levels : List Level) → HasTaken table pages old levels (Ok None) old
-none_taken table pages old levels = record { list = []; read = refl; of = λ world told bound height own items comes. within_none own }
+none_taken table pages old levels = record { list = []; read = refl; are = λ world told. inl refl; of = λ world told bound height own items comes. within_none own }
 
 -- an item is given only where there is a level
 pub is_there : (found : Option (ℤ × List Value)) (levels : List Level) → 1 ≤ length levels → MatchOption found (Unit {0}) (λ (pair : ℤ × List Value). 1 ≤ length levels)
@@ -137,6 +140,21 @@ row_taken pages old new levels top bounds rowid row (Some pair) reading at insid
       );
     }
 
+-- pages of its chain
+of_next : {P : Type 0} (table : Bool) (pages : Ghosts P) (old new : P) (levels : List Level) (top : Level) (chain : List ℕ) → ReadsAtMost pages old new
+    → (at : AtCell table pages old levels top) → (world : View) → pages.tells new world
+    → AreOfChain (pages.usable old) (pages.last_page old) (shown_over pages old world) (cell_at at.is_top.is_level.node top.place) chain
+    → AreOfNext (pages.usable old) (pages.last_page old) (shown_over pages old world) levels chain
+of_next table pages old new levels top chain reading at world told are = record {
+  top = top;
+  is_last = record { above = at.is_top.above; levels_are = at.is_top.are };
+  at = at.cell;
+  node = at.is_top.is_level.node;
+  holds = at.is_top.is_level.shown world (reading.edits.narrows world told);
+  inside = at.inside;
+  are = are;
+}
+
 -- the pages that were read are those of its chain
 pub chain_taken : {P : Type 0} (table : Bool) (pages : Ghosts P) (old new : P) (levels : List Level) (top : Level) (row : List Value) (found : Option (ℤ × List Value))
     → ReadsAtMost pages old new → (at : AtCell table pages old levels top) → HasReadRow pages old (cell_at at.is_top.is_level.node top.place) top.page (Ok row) new
@@ -144,6 +162,8 @@ pub chain_taken : {P : Type 0} (table : Bool) (pages : Ghosts P) (old new : P) (
 chain_taken table pages old new levels top row found reading at read = record {
   list = read.chain;
   read = read.read;
+  are = λ world told. inr (of_next table pages old new levels top read.chain reading at world told
+      (of_chain (pages.usable old) (pages.last_page old) (shown_over pages old world) (cell_at at.is_top.is_level.node top.place) read.chain (read.ends world told).0 0 (read.ends world told).1.0));
   of = by_found found;
 }
   where
@@ -202,6 +222,8 @@ pub chain_barred : {P : Type 0} (table : Bool) (pages : Ghosts P) (old new : P) 
 chain_barred table pages old new levels top why reading at read = record {
   list = read.chain;
   read = read.read;
+  are = λ world told. inr (of_next table pages old new levels top read.chain reading at world told
+      (chain_of (pages.usable old) (pages.last_page old) (shown_over pages old world) (cell_at at.is_top.is_level.node top.place) top.page read.chain why (read.ends world told)));
   of = λ world told bound height own items comes.
       let taken = taken_at table pages old levels top at world (reading.edits.narrows world told) bound height own items comes in
       let few = first_of_chain (pages.usable old) (pages.last_page old) bound (shown_over pages old world) (cell_at at.is_top.is_level.node top.place) top.page read.chain why taken.item

@@ -4,3 +4,4 @@ pub mod Placing
 pub mod Scanning
 pub mod Seeking
 pub mod Reads
+pub mod Walking

@@ -1,5 +1,5 @@
 -- Which pages a cursor's calls read.
-use Rattle.std.specs.Prelude.{◌≡◌, ℕ, ℤ, ◌≤◌, not, Bool, true, false, List, [], ◌∷◌, ◌++◌, Option, None, Some, Result, Ok, Err, OnOk}
+use Rattle.std.specs.Prelude.{◌≡◌, ◌⊎◌, ℕ, ℤ, ◌≤◌, not, Bool, true, false, List, [], ◌∷◌, ◌++◌, Option, None, Some, Result, Ok, Err, OnOk}
 use Rattle.page_spec.specs.View.{View}
 use Rattle.engine_spec.specs.declared.commits.FetchFault.{FetchFault}
 use Rattle.page_face.specs.declared.pages_tells.PagesTells.{Ghosts}
@@ -7,11 +7,13 @@ use Rattle.tree_spec.specs.Shown.{Shown}
 use Rattle.tree_spec.specs.Layout.{Item, times}
 use Rattle.tree_spec.specs.Trees.{IsTree}
 use Rattle.overflow.specs.Following.{shown_over, all_read}
+use Rattle.tree_scan.specs.declared.bounds.Bounds.{Bounds}
 use Rattle.tree_scan.specs.declared.level.Level.{Level}
 use Rattle.tree_scan.specs.declared.cursor.Cursor.{Cursor}
 use Rattle.value_form.specs.declared.value.Value.{Value}
 use Rattle.tree_scan.specs.Bounded.{of_table, may_look}
 use Rattle.tree_scan.specs.Coming.{Comes, gone_past}
+use Rattle.tree_scan.specs.Walking.{IsWalk, EndsWalk, StartsBy, AreOfNext}
 
 -- no page stands in these pages more often than in those
 abbrev pub NoOftener : (few own : List ℕ) → Type 0
@@ -52,10 +54,13 @@ LeavesToRead usable last shown height looks own list (Ok found) cursor =
 LeavesToRead usable last shown height looks own list (Err why) cursor =
     (still : List ℕ) × (AreToRead usable last shown height cursor still × (ReadsOf looks own list × NoOftener still own))
 
--- These pages were read, in this order, and no others. Over each world that is still told they are of those that were still to be read.
-pub record HasReadAhead {P T : Type 0} (pages : Ghosts P) (old : P) (cursor : Cursor) (result : Result T FetchFault) (cursor_then : Cursor) (new : P) : Type 0 where
+-- These pages were read, in this order, and no others. Over each world that is still told something holds of them, on any pages, and where the root has a tree
+-- they are of those that were still to be read.
+pub record HasReadAhead {P T : Type 0} (pages : Ghosts P) (old : P) (Are : (usable last : ℕ) → Shown → List ℕ → Type 0) (cursor : Cursor) (result : Result T FetchFault)
+    (cursor_then : Cursor) (new : P) : Type 0 where
   pub list : List ℕ
   pub read : pages.reads new ≡ all_read (pages.has old) (pages.reads old) list
+  pub are : (world : View) → pages.tells new world → Are (pages.usable old) (pages.last_page old) (shown_over pages old world) list
   pub of : (world : View) → pages.tells new world → (bound height : ℕ) (own : List ℕ) → AreToRead (pages.usable old) bound (shown_over pages old world) height cursor own
       → LeavesToRead (pages.usable old) bound (shown_over pages old world) height (compares cursor) own list result cursor_then
 
@@ -67,26 +72,29 @@ pub record LeavesAhead (table : Bool) (usable last : ℕ) (shown : Shown) (heigh
   pub within : TakesPages looks own kept own_then
   pub next : ReadsOf looks own_then again
 
-pub record HasWalked {P T : Type 0} (looks table : Bool) (pages : Ghosts P) (old : P) (levels levels_then : List Level) (result : Result T FetchFault) (new : P) : Type 0 where
+pub record HasWalked {P T : Type 0} (seek : Bool) (bounds : Bounds) (pages : Ghosts P) (old : P) (levels levels_then : List Level) (result : Result T FetchFault) (new : P) : Type 0 where
   pub kept : List ℕ
   pub again : List ℕ
   pub read : pages.reads new ≡ all_read (pages.has old) (pages.reads old) (kept ++ again)
   pub well : OnOk result (again ≡ [])
+  pub walk : (world : View) → pages.tells new world → IsWalk (pages.usable old) (pages.last_page old) (shown_over pages old world) seek bounds levels kept levels_then
+  pub end : (world : View) → pages.tells new world → EndsWalk (pages.usable old) (pages.last_page old) (shown_over pages old world) seek bounds levels_then again
   pub of : (world : View) → pages.tells new world → (bound height : ℕ) (own : List ℕ) (items : List Item)
-      → Comes table (pages.usable old) bound (shown_over pages old world) height levels own items
-      → LeavesAhead table (pages.usable old) bound (shown_over pages old world) height levels_then looks own kept again
+      → Comes (of_table bounds) (pages.usable old) bound (shown_over pages old world) height levels own items
+      → LeavesAhead (of_table bounds) (pages.usable old) bound (shown_over pages old world) height levels_then (may_look seek bounds) own kept again
 
 -- The same of a path that begins at a root. After an error it isn't kept.
 abbrev pub StartsAhead : {T : Type 0} → (looks table : Bool) (usable last : ℕ) → Shown → (height : ℕ) → (own list : List ℕ) → Result T FetchFault → List Level → Type 0
 StartsAhead looks table usable last shown height own list (Ok done) levels = LeavesAhead table usable last shown height levels looks own list []
 StartsAhead looks table usable last shown height own list (Err why) levels = ReadsOf looks own list
 
-pub record HasStarted {P T : Type 0} (looks table : Bool) (pages : Ghosts P) (old : P) (root : ℕ) (levels : List Level) (result : Result T FetchFault) (new : P) : Type 0 where
+pub record HasStarted {P T : Type 0} (bounds : Bounds) (pages : Ghosts P) (old : P) (root : ℕ) (levels : List Level) (result : Result T FetchFault) (new : P) : Type 0 where
   pub list : List ℕ
   pub read : pages.reads new ≡ all_read (pages.has old) (pages.reads old) list
+  pub are : (world : View) → pages.tells new world → StartsBy (pages.usable old) (pages.last_page old) (shown_over pages old world) bounds root list result levels
   pub of : (world : View) → pages.tells new world → (bound height : ℕ) (own : List ℕ) (items : List Item)
-      → IsTree table (pages.usable old) bound (shown_over pages old world) height root own items
-      → StartsAhead looks table (pages.usable old) bound (shown_over pages old world) height own list result levels
+      → IsTree (of_table bounds) (pages.usable old) bound (shown_over pages old world) height root own items
+      → StartsAhead (may_look true bounds) (of_table bounds) (pages.usable old) bound (shown_over pages old world) height own list result levels
 
 -- The same of the item of the cell that comes next: where it was read the path goes past it.
 abbrev pub TakesAhead : (table : Bool) (usable last : ℕ) → Shown → (height : ℕ) → List Level → (own list : List ℕ) → Result (Option (ℤ × List Value)) FetchFault → Type 0
@@ -99,6 +107,7 @@ TakesAhead table usable last shown height levels own list (Err why) = NoOftener 
 pub record HasTaken {P : Type 0} (table : Bool) (pages : Ghosts P) (old : P) (levels : List Level) (result : Result (Option (ℤ × List Value)) FetchFault) (new : P) : Type 0 where
   pub list : List ℕ
   pub read : pages.reads new ≡ all_read (pages.has old) (pages.reads old) list
+  pub are : (world : View) → pages.tells new world → (list ≡ []) ⊎ AreOfNext (pages.usable old) (pages.last_page old) (shown_over pages old world) levels list
   pub of : (world : View) → pages.tells new world → (bound height : ℕ) (own : List ℕ) (items : List Item)
       → Comes table (pages.usable old) bound (shown_over pages old world) height levels own items
       → TakesAhead table (pages.usable old) bound (shown_over pages old world) height levels own list result

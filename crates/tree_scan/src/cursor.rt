@@ -3,6 +3,7 @@ ghost use Rattle.std.specs.Prelude.{◌≡◌, ℕ, true, false, OnOk, IfOk, IfE
 ghost use Rattle.page_face.specs.Pages.{ReadsAtMost};
 ghost use Rattle.tree_scan.specs.Coming.{IsNewCursor};
 ghost use Rattle.tree_scan.specs.Reads.{HasReadAhead};
+ghost use Rattle.tree_scan.specs.Walking.{IsReadNext, BeginsBy, WalksOn};
 ghost use Rattle.tree_scan.specs.Scanning.{Fits, GivesNext, StaysThere, FailsNext, IsBarred, BreaksOn, BreaksNext, BreaksStart};
 
 use crate::bounds::Bounds;
@@ -66,7 +67,8 @@ impl Cursor {
     /// bytes or more; and the page of the payload's chain that names one out of range. In an index it may be so for each entry with which the low
     /// bound is compared. `Disk` and `Memory` come from outside.
     ///
-    /// Each page of the tree is read once, when it is come to, and the pages of an item's chain with the item. In an index the chains of the entries
+    /// A call reads the pages of the path that it walks, down to where an item comes next, and those of the item's chain. So over all calls a tree's
+    /// pages from that of the low bound's place to that of the first item over the high one are read, each once. In an index the chains of the entries
     /// with which the low bound is compared are read besides. What an error cut off is read again.
     pub fn next<P: Pages>(&mut self, pages: &mut P) -> Result<Option<(i64, Row)>, FetchFault>
         requires ready { P.ready pages.old }
@@ -76,7 +78,7 @@ impl Cursor {
         ensures barred { IfErr result (IsBarred P.PagesTells pages.old pages.new (λ shown. BreaksNext (P.usable pages.old) (P.last_page pages.old) shown self.new)) }
         ensures sound { IfErr result (λ why. FailsNext P.PagesTells pages.old self.old why pages.new) }
         ensures fits { Fits P.PagesTells pages.new self.new }
-        ensures reads { HasReadAhead P.PagesTells pages.old self.old result self.new pages.new }
+        ensures reads { HasReadAhead P.PagesTells pages.old (λ usable last shown list. IsReadNext usable last shown self.old list) self.old result self.new pages.new }
         ensures reading { ReadsAtMost P.PagesTells pages.old pages.new }
     {
         match self.begin(pages) {
@@ -101,7 +103,7 @@ impl Cursor {
             (λ shown. BreaksStart (P.usable pages.old) (P.last_page pages.old) shown self.new.bounds self.new.root self.new.levels.items)) }
         ensures sound { IfErr result (λ why. FailsNext P.PagesTells pages.old self.old why pages.new) }
         ensures fits { Fits P.PagesTells pages.new self.new }
-        ensures reads { HasReadAhead P.PagesTells pages.old self.old result self.new pages.new }
+        ensures reads { HasReadAhead P.PagesTells pages.old (λ usable last shown list. BeginsBy usable last shown self.old result self.new list) self.old result self.new pages.new }
         ensures reading { ReadsAtMost P.PagesTells pages.old pages.new }
     {
         if self.begun {
@@ -132,7 +134,8 @@ impl Cursor {
             (λ shown. BreaksOn (P.usable pages.old) (P.last_page pages.old) shown self.new.bounds self.new.levels.items)) }
         ensures sound { IfErr result (λ why. FailsNext P.PagesTells pages.old self.old why pages.new) }
         ensures fits { Fits P.PagesTells pages.new self.new }
-        ensures reads { HasReadAhead P.PagesTells pages.old self.old result self.new pages.new }
+        ensures reads { HasReadAhead P.PagesTells pages.old
+            (λ usable last shown list. WalksOn usable last shown self.old.bounds self.old.levels.items list) self.old result self.new pages.new }
         ensures reading { ReadsAtMost P.PagesTells pages.old pages.new }
     {
         go_up(&mut self.levels, &mut self.spare);

@@ -3,7 +3,7 @@ ghost use Rattle.std.specs.Prelude.{◌≡◌, ℕ, suc, ◌≤◌, ◌<◌, tru
 ghost use Rattle.engine_spec.specs.declared.commits.FetchFault.TheVariants as fault;
 ghost use Rattle.tree_spec.specs.Layout.{Each};
 ghost use Rattle.page_face.specs.Pages.{ReadsAtMost};
-ghost use Rattle.tree_scan.specs.Bounded.{of_table, may_look};
+ghost use Rattle.tree_scan.specs.Bounded.{of_table};
 ghost use Rattle.tree_scan.specs.Coming.{IsSpent, gone_below, gone_past};
 ghost use Rattle.tree_scan.specs.Placing.{HasLevel, BarsLevel};
 ghost use Rattle.tree_scan.specs.Reads.{HasWalked, HasStarted};
@@ -115,7 +115,7 @@ pub(crate) fn go_down<P: Pages>(
     ensures sought { seek ≡ true → KeepsSought P.PagesTells pages.old bounds.now levels.old.items levels.new.items pages.new }
     ensures left { seek ≡ false → ((above : List Level) (top : Level) → levels.old.items ≡ above ++ top ∷ [] → IsSpent top → ⊥)
         → (above : List Level) (top : Level) → levels.new.items ≡ above ++ top ∷ [] → IsSpent top → ⊥ }
-    ensures walked { HasWalked (may_look seek bounds.now) (of_table bounds.now) P.PagesTells pages.old levels.old.items levels.new.items result pages.new }
+    ensures walked { HasWalked seek bounds.now P.PagesTells pages.old levels.old.items levels.new.items result pages.new }
     ensures cell { OnOk result ((above : List Level) (top : Level) → levels.new.items ≡ above ++ top ∷ [] → top.at_cell ≡ true) }
     ensures barred { IfErr result (IsBarred P.PagesTells pages.old pages.new
         (λ shown. BreaksDown (P.usable pages.old) (P.last_page pages.old) shown seek bounds.now levels.new.items)) }
@@ -162,7 +162,7 @@ fn enter<P: Pages>(
     ensures inner { OnOk result ((above : List Level) (top : Level) → levels.new.items ≡ above ++ top ∷ [] → top.at_cell ≡ false → IsSpent top → ⊥) }
     ensures more { OnOk result (length levels.new.items ≡ suc (length levels.old.items)) }
     ensures kept { OnErr result (levels.new.items ≡ levels.old.items) }
-    ensures walked { HasWalked (may_look seek bounds.now) (of_table bounds.now) P.PagesTells pages.old levels.old.items levels.new.items result pages.new }
+    ensures walked { HasWalked seek bounds.now P.PagesTells pages.old levels.old.items levels.new.items result pages.new }
     ensures barred { IfErr result (IsBarred P.PagesTells pages.old pages.new
         (λ shown. BreaksDown (P.usable pages.old) (P.last_page pages.old) shown seek bounds.now levels.old.items)) }
     ensures reading { ReadsAtMost P.PagesTells pages.old pages.new }
@@ -238,7 +238,7 @@ pub(crate) fn first_path<P: Pages>(
     requires none { levels.old.items ≡ [] }
     ensures levels { AreLevels (of_table bounds.now) P.PagesTells pages.new levels.new.items }
     ensures starts { OnOk result (StartsAt P.PagesTells pages.old bounds.now root levels.new.items pages.new) }
-    ensures started { HasStarted (may_look true bounds.now) (of_table bounds.now) P.PagesTells pages.old root levels.new.items result pages.new }
+    ensures started { HasStarted bounds.now P.PagesTells pages.old root levels.new.items result pages.new }
     ensures barred { IfErr result (IsBarred P.PagesTells pages.old pages.new
         (λ shown. BreaksStart (P.usable pages.old) (P.last_page pages.old) shown bounds.now root levels.new.items)) }
     ensures sound { IfErr result (λ why. FailsStart P.PagesTells pages.old bounds.now root why pages.new) }

@@ -1,6 +1,6 @@
 use Rattle.std.proofs.Common.{◌≡◌, Bool, true, false, List, [], ◌∷◌, ◌++◌, length, Err, inl, inr, refl, ◌∙◌, sym, subst, arith, append_assoc}
 use Rattle.tree_scan.specs.declared.level.Level.{Level}
-use Rattle.tree_scan.specs.Bounded.{of_table, may_look}
+use Rattle.tree_scan.specs.Bounded.{of_table}
 use Rattle.tree_scan.specs.Coming.{IsSpent, gone_below}
 use Rattle.tree_scan.specs.Placing.{HasLevel}
 use Rattle.tree_scan.specs.Reads.{HasWalked}
@@ -31,7 +31,7 @@ returns-then-is_outside-clause-barred g c = λ world told.
 
 pub returns-then-is_outside-clause-walked : goal.returns-then-is_outside-clause-walked
 returns-then-is_outside-clause-walked g c =
-    unread (may_look c.args.seek c.args.bounds.now) (of_table c.args.bounds.now) g.P.PagesTells c.args.pages.now c.args.pages.now c.args.levels.now.items _ refl
+    unread c.args.seek c.args.bounds.now g.P.PagesTells c.args.pages.now c.args.pages.now c.args.levels.now.items _ refl
 
 pub returns-in-Err-clause-levels : goal.returns-in-Err-clause-levels
 returns-in-Err-clause-levels g c =
@@ -111,7 +111,7 @@ returns-in-Err-attach-clause-walked g c =
     let inner = inner_of t p old top c.usable_of-usable.result child c.as_slice.result.now c.usable_of-usable.ensures.value c.as_slice.ensures.value
     found.1.is_level (subst (λ (l : Level). l.at_cell ≡ false) (sym found.0) r.1.1.1.0) (subst (λ (l : Level). IsSpent l → ⊥) (sym found.0) r.1.1.1.1) c.child_before-child.ensures in
     let has = c.in-Ok.ensures.level in
-    subst (λ (l : List Level). HasWalked {T = Unit {0}} (may_look c.args.seek bounds) t p old levels l (Err c.in-Err-attach.why) c.read_level.new.pages) (sym c.in-Err-attach.ensures.kept)
+    subst (λ (l : List Level). HasWalked {T = Unit {0}} c.args.seek bounds p old levels l (Err c.in-Err-attach.why) c.read_level.new.pages) (sym c.in-Err-attach.ensures.kept)
     (child_failed p old c.read_level.new.pages c.args.seek bounds levels top child c.len-depth.result c.in-Err-attach.why c.in-Ok.ensures.reading found.1 inner (child ∷ has.list) has.read
     (level_read p old c.read_level.new.pages c.args.seek bounds child c.len-depth.result c.in-Ok.level has))
 

@@ -1,7 +1,7 @@
 use Rattle.std.proofs.Common.{◌≡◌, ℕ, true, List, [], ◌∷◌, ◌++◌, Ok, Err, refl, sym, subst, ap, ◌∙◌, arith}
 use Rattle.tree_spec.specs.Shown.{Shown}
 use Rattle.tree_scan.specs.declared.level.Level.{Level}
-use Rattle.tree_scan.specs.Bounded.{of_table, may_look}
+use Rattle.tree_scan.specs.Bounded.{of_table}
 use Rattle.tree_scan.specs.Scanning.{AreLevels, BreaksDown, BreaksStart}
 use Rattle.tree_scan.proofs.Shows.{barred_before, fresh_level, level_read}
 use Rattle.tree_scan.proofs.Cursors.{starts_at, barred_as}
@@ -46,7 +46,7 @@ returns-in-Ok-go_down-clause-started g c =
     let p = g.P.PagesTells in
     let bounds = c.args.bounds.now in
     let are : c.push.new.self.items ≡ c.in-Ok.level ∷ [] = c.in-Ok-push.ensures.items ∙ ap (λ (l : List Level). l ++ c.in-Ok.level ∷ []) c.requires.none in
-    started_way {T = Unit {0}} {U = Unit {0}} (may_look true bounds) (of_table bounds) p c.args.pages.now c.read_level.new.pages c.go_down.new.pages c.args.root c.push.new.self.items
+    started_way {T = Unit {0}} {U = Unit {0}} bounds p c.args.pages.now c.read_level.new.pages c.go_down.new.pages c.args.root c.push.new.self.items
     c.go_down.new.levels.items tt (Ok tt) c.in-Ok.ensures.reading c.in-Ok-go_down.ensures.reading
     (started_level {T = Unit {0}} p c.args.pages.now c.read_level.new.pages bounds c.args.root c.in-Ok.level c.push.new.self.items tt c.in-Ok.ensures.level are) c.in-Ok-go_down.ensures.walked
 
@@ -55,7 +55,7 @@ returns-in-Err-go_down-clause-started g c =
     let p = g.P.PagesTells in
     let bounds = c.args.bounds.now in
     let are : c.push.new.self.items ≡ c.in-Ok.level ∷ [] = c.in-Ok-push.ensures.items ∙ ap (λ (l : List Level). l ++ c.in-Ok.level ∷ []) c.requires.none in
-    started_way {T = Unit {0}} {U = Unit {0}} (may_look true bounds) (of_table bounds) p c.args.pages.now c.read_level.new.pages c.go_down.new.pages c.args.root c.push.new.self.items
+    started_way {T = Unit {0}} {U = Unit {0}} bounds p c.args.pages.now c.read_level.new.pages c.go_down.new.pages c.args.root c.push.new.self.items
     c.go_down.new.levels.items tt (Err c.in-Err-go_down.why) c.in-Ok.ensures.reading c.in-Err-go_down.ensures.reading
     (started_level {T = Unit {0}} p c.args.pages.now c.read_level.new.pages bounds c.args.root c.in-Ok.level c.push.new.self.items tt c.in-Ok.ensures.level are) c.in-Err-go_down.ensures.walked
 

@@ -2,7 +2,7 @@ use Rattle.std.proofs.Common.{◌≡◌, ℕ, List, [], ◌∷◌, ◌++◌, Ok,
 use Rattle.page_face.proofs.PageLaws.{reading_join, reading_same}
 use Rattle.tree_spec.specs.Shown.{Shown}
 use Rattle.tree_scan.specs.declared.level.Level.{Level}
-use Rattle.tree_scan.specs.Bounded.{of_table, may_look}
+use Rattle.tree_scan.specs.Bounded.{of_table}
 use Rattle.tree_scan.specs.Scanning.{IsBarred, BreaksDown}
 use Rattle.tree_scan.proofs.Shows.{walked_join, walked_still, keeps_join, sought_join, barred_before}
 use Rattle.tree_scan.proofs.path.go_down.Goals as goal
@@ -13,7 +13,7 @@ downs-init g c = record {
   levels = c.requires.levels;
   coming = λ is world told bound height own items comes. (own, comes);
   sought = λ is world told bound height items sought. sought;
-  walked = walked_still (may_look c.args.seek c.args.bounds.now) (of_table c.args.bounds.now) g.P.PagesTells c.args.pages.now c.args.levels.now.items;
+  walked = walked_still c.args.seek c.args.bounds.now g.P.PagesTells c.args.pages.now c.args.levels.now.items;
   left = λ is first. first;
   inner = c.requires.left;
 }
@@ -35,7 +35,7 @@ downs-preserved g c =
           (before.coming is) (c.in-Ok.ensures.coming is);
       sought = λ is. sought_join p c.args.pages.now c.downs.pages c.enter.new.pages c.args.bounds.now c.args.levels.now.items c.downs.levels.items c.enter.new.levels.items before.reading
           c.in-Ok.ensures.reading (before.sought is) (c.in-Ok.ensures.sought is);
-      walked = walked_join {T = Unit {0}} {U = Unit {0}} (may_look c.args.seek c.args.bounds.now) t p c.args.pages.now c.downs.pages c.enter.new.pages c.args.levels.now.items
+      walked = walked_join {T = Unit {0}} {U = Unit {0}} c.args.seek c.args.bounds.now p c.args.pages.now c.downs.pages c.enter.new.pages c.args.levels.now.items
           c.downs.levels.items c.enter.new.levels.items tt (Ok tt) before.reading c.in-Ok.ensures.reading before.walked c.in-Ok.ensures.walked;
       left = λ is first. c.in-Ok.ensures.left is;
       inner = c.in-Ok.ensures.inner;
@@ -56,7 +56,7 @@ returns-in-Err-clause-left g c = λ is first above top are. c.downs.invariant.le
 
 pub returns-in-Err-clause-walked : goal.returns-in-Err-clause-walked
 returns-in-Err-clause-walked g c =
-    walked_join {T = Unit {0}} {U = Unit {0}} (may_look c.args.seek c.args.bounds.now) (of_table c.args.bounds.now) g.P.PagesTells c.args.pages.now c.downs.pages c.enter.new.pages
+    walked_join {T = Unit {0}} {U = Unit {0}} c.args.seek c.args.bounds.now g.P.PagesTells c.args.pages.now c.downs.pages c.enter.new.pages
     c.args.levels.now.items c.downs.levels.items c.enter.new.levels.items tt (Err c.in-Err.why) c.downs.invariant.reading c.in-Err.ensures.reading c.downs.invariant.walked
     c.in-Err.ensures.walked
 

@@ -1,6 +1,6 @@
 use Rattle.std.proofs.Common.{refl}
 use Rattle.tree_scan.proofs.Cursors.{begins, stays_same}
-use Rattle.tree_scan.proofs.Reading.{reads_started, reads_refused, refused_nothing}
+use Rattle.tree_scan.proofs.Reading.{reads_started, reads_refused, refused_nothing, reads_nothing}
 use Rattle.tree_scan.proofs.Soundness.{start_fails}
 use Rattle.tree_scan.proofs.cursor.Cursor.begin.Goals as goal
 
@@ -23,4 +23,7 @@ returns-in-Err-clause-reads g c =
     reads_refused g.P.PagesTells c.args.pages.now c.first_path.new.pages c.args.self.now _ c.in-Err.why c.if-self.false c.if-self.false refl refl c.in-Err.ensures.started
 
 pub returns-then-root-lt1-clause-reads : goal.returns-then-root-lt1-clause-reads
-returns-then-root-lt1-clause-reads g c = refused_nothing {T = Unit {0}} g.P.PagesTells c.args.pages.now c.args.self.now _
+returns-then-root-lt1-clause-reads g c = refused_nothing g.P.PagesTells c.args.pages.now c.args.self.now _ c.if-self.false
+
+pub returns-then-self-clause-reads : goal.returns-then-self-clause-reads
+returns-then-self-clause-reads g c = reads_nothing g.P.PagesTells c.args.pages.now c.args.self.now c.if-self.true

@@ -62,8 +62,8 @@ returns-in-Err-clause-reads g c =
     let t = of_table c.args.self.now.bounds in
     let still = reading_same p old c.requires.ready (p.follows_itself old) in
     let passed = c.go_up.ensures.passed in
-    let up = walked_up t p old c.args.self.now.levels.items c.go_up.new.levels.items passed.0 still passed.1.0 c.requires.fits.0 passed.1.1 in
-    let walked = walked_join {T = Unit {0}} {U = Unit {0}} false t p old old now c.args.self.now.levels.items c.go_up.new.levels.items c.go_down.new.levels.items tt (Err c.in-Err.why) still
+    let up = walked_up c.args.self.now.bounds p old c.args.self.now.levels.items c.go_up.new.levels.items passed.0 still passed.1.0 c.requires.fits.0 passed.1.1 in
+    let walked = walked_join {T = Unit {0}} {U = Unit {0}} false c.args.self.now.bounds p old old now c.args.self.now.levels.items c.go_up.new.levels.items c.go_down.new.levels.items tt (Err c.in-Err.why) still
     c.in-Err.ensures.reading up c.in-Err.ensures.walked in
     reads_walked {T = Option (ℤ × List Value)} p old now c.args.self.now _ c.in-Err.why c.requires.begun c.requires.begun refl walked
 
@@ -93,8 +93,8 @@ returns-in-Ok-None-clause-reads g c =
     let t = of_table c.args.self.now.bounds in
     let still = reading_same p old c.requires.ready (p.follows_itself old) in
     let passed = c.go_up.ensures.passed in
-    let up = walked_up t p old c.args.self.now.levels.items c.go_up.new.levels.items passed.0 still passed.1.0 c.requires.fits.0 passed.1.1 in
-    let walked = walked_join {T = Unit {0}} {U = Unit {0}} false t p old old now c.args.self.now.levels.items c.go_up.new.levels.items c.go_down.new.levels.items tt (Ok tt) still
+    let up = walked_up c.args.self.now.bounds p old c.args.self.now.levels.items c.go_up.new.levels.items passed.0 still passed.1.0 c.requires.fits.0 passed.1.1 in
+    let walked = walked_join {T = Unit {0}} {U = Unit {0}} false c.args.self.now.bounds p old old now c.args.self.now.levels.items c.go_up.new.levels.items c.go_down.new.levels.items tt (Ok tt) still
     c.in-Ok.ensures.reading up c.in-Ok.ensures.walked in
     reads_none p old now c.row_at.new.pages c.args.self.now _ c.go_down.new.levels.items c.requires.begun c.requires.begun c.clear.ensures.items c.in-Ok.ensures.reading
     c.in-Ok-None.ensures.reading walked
@@ -123,8 +123,8 @@ returns-in-Ok-Some-clause-reads g c =
     let t = of_table c.args.self.now.bounds in
     let still = reading_same p old c.requires.ready (p.follows_itself old) in
     let passed = c.go_up.ensures.passed in
-    let up = walked_up t p old c.args.self.now.levels.items c.go_up.new.levels.items passed.0 still passed.1.0 c.requires.fits.0 passed.1.1 in
-    let walked = walked_join {T = Unit {0}} {U = Unit {0}} false t p old old now c.args.self.now.levels.items c.go_up.new.levels.items c.go_down.new.levels.items tt (Ok tt) still
+    let up = walked_up c.args.self.now.bounds p old c.args.self.now.levels.items c.go_up.new.levels.items passed.0 still passed.1.0 c.requires.fits.0 passed.1.1 in
+    let walked = walked_join {T = Unit {0}} {U = Unit {0}} false c.args.self.now.bounds p old old now c.args.self.now.levels.items c.go_up.new.levels.items c.go_down.new.levels.items tt (Ok tt) still
     c.in-Ok.ensures.reading up c.in-Ok.ensures.walked in
     reads_some p old now c.row_at.new.pages c.args.self.now _ c.go_down.new.levels.items c.in-Ok-Some.row c.requires.begun c.requires.begun refl c.in-Ok.ensures.reading
     c.in-Ok-Some.ensures.reading c.step_on.ensures walked
@@ -202,8 +202,8 @@ returns-in-Err-row_at-clause-reads g c =
     let t = of_table c.args.self.now.bounds in
     let still = reading_same p old c.requires.ready (p.follows_itself old) in
     let passed = c.go_up.ensures.passed in
-    let up = walked_up t p old c.args.self.now.levels.items c.go_up.new.levels.items passed.0 still passed.1.0 c.requires.fits.0 passed.1.1 in
-    let walked = walked_join {T = Unit {0}} {U = Unit {0}} false t p old old now c.args.self.now.levels.items c.go_up.new.levels.items c.go_down.new.levels.items tt (Ok tt) still
+    let up = walked_up c.args.self.now.bounds p old c.args.self.now.levels.items c.go_up.new.levels.items passed.0 still passed.1.0 c.requires.fits.0 passed.1.1 in
+    let walked = walked_join {T = Unit {0}} {U = Unit {0}} false c.args.self.now.bounds p old old now c.args.self.now.levels.items c.go_up.new.levels.items c.go_down.new.levels.items tt (Ok tt) still
     c.in-Ok.ensures.reading up c.in-Ok.ensures.walked in
     reads_fault p old now c.row_at.new.pages c.args.self.now _ c.in-Err-row_at.why c.requires.begun c.requires.begun refl c.in-Ok.ensures.reading c.in-Err-row_at.ensures.reading walked
     c.in-Err-row_at.ensures.taken

@@ -3,7 +3,7 @@ use Rattle.tree_spec.specs.Shown.{Shown}
 use Rattle.value_form.specs.declared.value.Value.{Value}
 use Rattle.tree_scan.specs.Scanning.{BreaksStart, BreaksOn, BreaksNext}
 use Rattle.tree_scan.proofs.Cursors.{stays_join, gives_join, barred_as}
-use Rattle.tree_scan.proofs.Reading.{reads_join}
+use Rattle.tree_scan.proofs.Reading.{reads_join, reads_starting}
 use Rattle.tree_scan.proofs.Shows.{barred_before}
 use Rattle.tree_scan.proofs.Soundness.{fails_join}
 use Rattle.tree_scan.proofs.cursor.Cursor.next.Goals as goal
@@ -21,8 +21,8 @@ returns-in-Ok-go_on-clause-gives g c = gives_join g.P.PagesTells c.args.pages.no
     c.in-Ok.ensures.reading c.in-Ok-go_on.ensures.reading c.in-Ok.ensures.stays c.in-Ok-go_on.ensures.gives
 
 pub returns-in-Ok-go_on-clause-reads : goal.returns-in-Ok-go_on-clause-reads
-returns-in-Ok-go_on-clause-reads g c = reads_join {T = Unit {0}} {U = Option (ℤ × List Value)} g.P.PagesTells c.args.pages.now c.begin.new.pages c.go_on.new.pages c.args.self.now
-    c.begin.new.self c.go_on.new.self tt (Ok _) c.in-Ok.ensures.reading c.in-Ok-go_on.ensures.reading c.in-Ok.ensures.begun c.in-Ok.ensures.reads c.in-Ok-go_on.ensures.reads
+returns-in-Ok-go_on-clause-reads g c = reads_join {U = Option (ℤ × List Value)} g.P.PagesTells c.args.pages.now c.begin.new.pages c.go_on.new.pages c.args.self.now
+    c.begin.new.self c.go_on.new.self (Ok _) c.in-Ok.ensures.reading c.in-Ok-go_on.ensures.reading c.in-Ok.ensures.begun c.in-Ok.ensures.same.0 c.in-Ok.ensures.reads c.in-Ok-go_on.ensures.reads
 
 pub returns-in-Err-go_on-clause-stays : goal.returns-in-Err-go_on-clause-stays
 returns-in-Err-go_on-clause-stays g c = stays_join g.P.PagesTells c.args.pages.now c.begin.new.pages c.go_on.new.pages c.args.self.now c.begin.new.self c.go_on.new.self
@@ -44,6 +44,9 @@ returns-in-Err-go_on-clause-sound g c = fails_join g.P.PagesTells c.args.pages.n
     c.in-Ok.ensures.reading c.in-Err-go_on.ensures.reading c.in-Ok.ensures.begun c.in-Ok.ensures.same.0 c.in-Ok.ensures.same.1 c.in-Ok.ensures.stays c.in-Err-go_on.ensures.sound
 
 pub returns-in-Err-go_on-clause-reads : goal.returns-in-Err-go_on-clause-reads
-returns-in-Err-go_on-clause-reads g c = reads_join {T = Unit {0}} {U = Option (ℤ × List Value)} g.P.PagesTells c.args.pages.now c.begin.new.pages c.go_on.new.pages c.args.self.now
-    c.begin.new.self c.go_on.new.self tt (Err c.in-Err-go_on.why) c.in-Ok.ensures.reading c.in-Err-go_on.ensures.reading c.in-Ok.ensures.begun c.in-Ok.ensures.reads
+returns-in-Err-go_on-clause-reads g c = reads_join {U = Option (ℤ × List Value)} g.P.PagesTells c.args.pages.now c.begin.new.pages c.go_on.new.pages c.args.self.now
+    c.begin.new.self c.go_on.new.self (Err c.in-Err-go_on.why) c.in-Ok.ensures.reading c.in-Err-go_on.ensures.reading c.in-Ok.ensures.begun c.in-Ok.ensures.same.0 c.in-Ok.ensures.reads
     c.in-Err-go_on.ensures.reads
+
+pub returns-in-Err-clause-reads : goal.returns-in-Err-clause-reads
+returns-in-Err-clause-reads g c = reads_starting g.P.PagesTells c.args.pages.now c.begin.new.pages c.args.self.now c.begin.new.self c.in-Err.why c.in-Err.ensures.reads
