@@ -1,1 +1,15 @@
 pub mod Visited
+pub mod CellsFit
+pub mod Told
+pub mod FreePages
+pub mod Payloads
+pub mod Ordered
+pub mod NodeParts
+pub mod Leaves
+pub mod Children
+pub mod Inners
+pub mod Fronts
+pub mod Said
+pub mod Roots
+pub mod SoundWalk
+pub mod OneAnswer
