@@ -4,6 +4,10 @@
 #[cfg(test)]
 mod chains;
 #[cfg(test)]
+mod edited;
+#[cfg(test)]
 mod laid;
 #[cfg(test)]
 mod stock;
+#[cfg(test)]
+mod written;

@@ -1,1 +1,4 @@
 pub mod Following
+pub mod Editing
+pub mod Writing
+pub mod Freeing

@@ -9,6 +9,10 @@
 //! in the cell that it belongs to, so a chain is followed as far as they need, and what its last page names isn't looked at.
 #![tactic(auto)]
 
+mod free;
 mod read;
+mod write;
 
+pub use free::{free_chain, free_chain_with};
 pub use read::{read_chain, read_chain_with};
+pub use write::{write_chain, write_chain_with};

@@ -131,7 +131,7 @@ fn append_content(to: &mut Vec<u8>, page: &[u8], count: usize) -> Result<(), Fet
 }
 
 // A buffer of so many bytes.
-fn page_buffer(alloc: Global, size: usize) -> Result<Vec<u8>, FetchFault>
+pub(crate) fn page_buffer(alloc: Global, size: usize) -> Result<Vec<u8>, FetchFault>
     ensures room { IfOk result (λ buf. length buf.items ≡ size) }
     ensures cause { IfErr result (λ why. why ≡ fault.Memory) }
 {
