@@ -1,0 +1,16 @@
+pub mod Lists
+pub mod Orders
+pub mod Local
+pub mod Under
+pub mod Runs
+pub mod Grown
+pub mod Levels
+pub mod Leaves
+pub mod Roots
+pub mod Joins
+pub mod Neighbours
+pub mod Swapped
+pub mod Heights
+pub mod Opening
+pub mod InOrder
+pub mod Through

@@ -1,0 +1,4 @@
+pub mod Nodes
+pub mod Joins
+pub mod Places
+pub mod Edits
