@@ -1,0 +1,18 @@
+//! Nodes edited in the bytes of their pages: cells put in together, a page divided, joined with a neighbour, begun anew or copied.
+//!
+//! Each call is said of the nodes that the pages show (crate `node_spec`), and of how a whole node is divided (crate `edit_spec`). Trees are edited by
+//! these calls alone: nothing above this crate speaks of bytes in a page. Cells go from page to page as slices, so that nothing but the keys between
+//! the parts of a divided page takes memory.
+#![tactic(auto)]
+
+mod copy;
+mod head;
+mod join;
+mod keys;
+mod put;
+mod run;
+
+pub use copy::copy_node;
+pub use join::take_over;
+pub use keys::cell_above;
+pub use put::{put_cells, start_inner};
