@@ -1,11 +1,11 @@
 -- Laws of images in rising order: which are there, what putting one changes, and that what is there tells all of them.
-use Rattle.std.proofs.Common.{◌≡◌, ◌∙◌, ℕ, ◌+◌, ◌<◌, ◌≤◌, List, [], ◌∷◌, ◌++◌, length, Option, Some, None, refl, sym, subst, ap, inl, inr, arith, eq-eqb}
-use Rattle.std.specs.Prelude.{All, ◌⊎◌}
+use Rattle.std.proofs.Common.{◌≡◌, ◌∙◌, ℕ, ◌<◌, ◌≤◌, List, [], ◌∷◌, ◌++◌, Option, Some, None, refl, sym, subst, ap, inl, inr, arith, eq-eqb}
+use Rattle.std.specs.Prelude.{All}
 use Rattle.std.proofs.lemmas.Bool.{cases_eq, cases_order, ne_eqb, lt-ltb, le-ltb}
 use Rattle.std.proofs.lemmas.List.Elements.{All-head, All-tail, All-cons, All-nil}
 use Rattle.engine_spec.specs.declared.commits.PageImage.{PageImage}
 use Rattle.engine_spec.specs.Change.{image_of}
-use Rattle.overlay.specs.Places.{pages_of, RisesFrom}
+use Rattle.overlay.specs.Places.{image_numbers, RisesFrom}
 use Rattle.overlay.specs.Images.{with_put, merged}
 
 -- an image
@@ -61,29 +61,29 @@ image_other (image ∷ images) page bytes q apart = elim (cases_order page image
 ]
 
 -- images that rise from a number rise from each lesser one
-pub rises_lower : (low lower : ℕ) (images : List PageImage) → lower ≤ low → RisesFrom low (pages_of images) → RisesFrom lower (pages_of images)
+pub rises_lower : (low lower : ℕ) (images : List PageImage) → lower ≤ low → RisesFrom low (image_numbers images) → RisesFrom lower (image_numbers images)
 rises_lower low lower [] less rises = tt
 rises_lower low lower (image ∷ images) less rises = (let above = rises.0 in omega arith, rises.1)
 
 -- no page is there that isn't above that number
-pub none_low : (low : ℕ) (images : List PageImage) (q : ℕ) → RisesFrom low (pages_of images) → q ≤ low → image_of images q ≡ None
+pub none_low : (low : ℕ) (images : List PageImage) (q : ℕ) → RisesFrom low (image_numbers images) → q ≤ low → image_of images q ≡ None
 none_low low [] q rises within = refl
 none_low low (image ∷ images) q rises within =
     let above = rises.0 in
     image_past image images q (λ e. omega arith) ∙ none_low image.page images q rises.1 (omega arith)
 
 -- images rise with one more
-pub rises_put : (low : ℕ) (images : List PageImage) (page : ℕ) (bytes : List ℕ) → RisesFrom low (pages_of images) → low < page
-    → RisesFrom low (pages_of (with_put images page bytes))
+pub rises_put : (low : ℕ) (images : List PageImage) (page : ℕ) (bytes : List ℕ) → RisesFrom low (image_numbers images) → low < page
+    → RisesFrom low (image_numbers (with_put images page bytes))
 rises_put low [] page bytes rises past = (past, tt)
 rises_put low (image ∷ images) page bytes rises past = elim (cases_order page image.page) [
-  | inl same ↦ rw (put_same image images page bytes same) (past, subst (λ (n : ℕ). RisesFrom n (pages_of images)) (sym same) rises.1)
+  | inl same ↦ rw (put_same image images page bytes same) (past, subst (λ (n : ℕ). RisesFrom n (image_numbers images)) (sym same) rises.1)
   | inr (inl below) ↦ rw (put_before image images page bytes below) (past, (below, rises.1))
   | inr (inr above) ↦ rw (put_after image images page bytes above) (rises.0, rises_put image.page images page bytes rises.1 above)
 ]
 
 -- images that rise are told by what is there of each page
-pub told_by_pages : (low other : ℕ) (a b : List PageImage) → RisesFrom low (pages_of a) → RisesFrom other (pages_of b) → ((q : ℕ) → image_of a q ≡ image_of b q) → a ≡ b
+pub told_by_pages : (low other : ℕ) (a b : List PageImage) → RisesFrom low (image_numbers a) → RisesFrom other (image_numbers b) → ((q : ℕ) → image_of a q ≡ image_of b q) → a ≡ b
 told_by_pages low other [] [] first second same = refl
 told_by_pages low other [] (y ∷ ys) first second same = absurd (let e = same y.page ∙ image_at y ys y.page refl in cc)
 told_by_pages low other (x ∷ xs) [] first second same = absurd (let e = sym (same x.page) ∙ image_at x xs x.page refl in cc)
@@ -142,15 +142,15 @@ merged_below images (image ∷ others) q none = elim (cases_eq image.page q) [
 ]
 
 -- images rise with others put over them
-pub rises_merged : (low : ℕ) (images others : List PageImage) → RisesFrom low (pages_of images) → RisesFrom low (pages_of others)
-    → RisesFrom low (pages_of (merged images others))
+pub rises_merged : (low : ℕ) (images others : List PageImage) → RisesFrom low (image_numbers images) → RisesFrom low (image_numbers others)
+    → RisesFrom low (image_numbers (merged images others))
 rises_merged low images [] first second = first
 rises_merged low images (image ∷ others) first second =
     rises_put low (merged images others) image.page image.bytes
     (rises_merged low images others first (rises_lower image.page low others (let above = second.0 in omega arith) second.1)) second.0
 
 -- an image put among the others is put over all of them
-pub merged_put : (images others : List PageImage) (page : ℕ) (bytes : List ℕ) → RisesFrom 0 (pages_of images) → RisesFrom 0 (pages_of others)
+pub merged_put : (images others : List PageImage) (page : ℕ) (bytes : List ℕ) → RisesFrom 0 (image_numbers images) → RisesFrom 0 (image_numbers others)
     → 0 < page → merged images (with_put others page bytes) ≡ with_put (merged images others) page bytes
 merged_put images others page bytes first second some =
     told_by_pages 0 0 (merged images (with_put others page bytes)) (with_put (merged images others) page bytes)

@@ -8,3 +8,10 @@ pub mod PartsLaws
 pub mod Reading
 pub mod Writing
 pub mod SamePages
+pub mod Fields
+pub mod Listing
+pub mod FreeOver
+pub mod Readied
+pub mod Taken
+pub mod TakesFree
+pub mod FirstPut

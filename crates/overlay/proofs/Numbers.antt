@@ -1,5 +1,5 @@
 -- Numbers that follow one another, and a transaction's first reads.
-use Rattle.std.proofs.Common.{◌≡◌, ◌∙◌, ℕ, ◌+◌, ◌<◌, ◌≤◌, zero, suc, List, [], ◌∷◌, ◌++◌, length, refl, sym, subst, ap, arith}
+use Rattle.std.proofs.Common.{◌≡◌, ℕ, ◌+◌, zero, List, [], ◌∷◌, refl, sym, subst, arith}
 use Rattle.std.specs.Prelude.{Contains}
 use Rattle.engine_spec.specs.declared.commits.Mode.{Mode}
 use Rattle.engine_spec.specs.declared.commits.Mode.TheVariants.{Plain, Concurrent}

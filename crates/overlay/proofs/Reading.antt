@@ -1,6 +1,6 @@
 -- What a page that is read through a transaction's pages is, and what reading leaves.
-use Rattle.std.proofs.Common.{◌≡◌, ◌∙◌, ℕ, ◌+◌, ◌<◌, ◌≤◌, zero, suc, List, [], ◌∷◌, length, Option, Some, None, Result, Ok, Err, refl, sym, subst, ap, inl, inr, arith}
-use Rattle.std.specs.Prelude.{Contains, IfSome, All, unwrap_or, is_some}
+use Rattle.std.proofs.Common.{◌≡◌, ◌∙◌, ℕ, ◌+◌, ◌<◌, ◌≤◌, zero, suc, List, [], ◌∷◌, length, Option, Some, None, Result, sym, subst, ap, inl, inr, arith}
+use Rattle.std.specs.Prelude.{IfSome, All, unwrap_or}
 use Rattle.std.proofs.lemmas.Bool.{cases_eq, cases_lt, lt-ltb, le-ltb}
 use Rattle.page_spec.specs.PageMap.{PageMap, page_at}
 use Rattle.page_spec.specs.View.{View}
@@ -13,10 +13,10 @@ use Rattle.engine_spec.specs.State.{EngineState}
 use Rattle.engine_spec.proofs.PageSets.{with_has, with_keeps}
 use Rattle.page_face.specs.declared.engine_tells.EngineTells.{Ghosts}
 use Rattle.page_face.specs.Calls.{HasFetched}
-use Rattle.overlay.specs.Places.{pages_of, AreNumbered}
-use Rattle.overlay.specs.Overlay.{OverlayState, own_image, over_change, last_page, IsInOrder}
+use Rattle.overlay.specs.Places.{image_numbers, AreNumbered}
+use Rattle.overlay.specs.Overlay.{OverlayState, own_image, over_change, last_page, IsChangeInOrder}
 use Rattle.overlay.specs.Live.{MayBeRead, AreWhole, IsOfPin}
-use Rattle.overlay.specs.Behind.{CountsAtMost, WasRead}
+use Rattle.overlay.specs.Behind.{WasRead}
 use Rattle.overlay.specs.BehindLaws.{fetch_counts}
 use Rattle.overlay.proofs.ImageLaws.{image_at, image_past}
 
@@ -40,7 +40,7 @@ own_whole change size page bytes whole found = elim (cases_lt change.base page) 
 ]
 
 -- each number among those that are numbered has an image
-numbered_there : (base : ℕ) (images : List PageImage) (page : ℕ) → AreNumbered base (pages_of images) → base < page → page ≤ base + length images
+numbered_there : (base : ℕ) (images : List PageImage) (page : ℕ) → AreNumbered base (image_numbers images) → base < page → page ≤ base + length images
     → image_of images page ≡ None → ⊥
 numbered_there base [] page numbered past within none = omega arith
 numbered_there base (image ∷ images) page numbered past within none = elim (cases_eq image.page page) [
@@ -52,7 +52,7 @@ numbered_there base (image ∷ images) page numbered past within none = elim (ca
 ]
 
 -- a page that wasn't changed or made is one of the snapshot
-pub own_none : (change : Change) (page : ℕ) → IsInOrder change → page ≤ last_page change → own_image change page ≡ None → page ≤ change.base
+pub own_none : (change : Change) (page : ℕ) → IsChangeInOrder change → page ≤ last_page change → own_image change page ≡ None → page ≤ change.base
 own_none change page order within none = elim (cases_lt change.base page) [
   | inl past ↦ absurd (numbered_there change.base change.fresh page order.fresh past within (rw (lt-ltb change.base page past) at none))
   | inr below ↦ below

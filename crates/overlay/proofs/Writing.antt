@@ -1,6 +1,6 @@
 -- What a page that is put, made or given up changes of what stands over a world, and of the free numbers.
-use Rattle.std.proofs.Common.{◌≡◌, ◌∙◌, ℕ, ◌+◌, ◌*◌, ◌<◌, ◌≤◌, ◌^◌, Bool, true, false, eqb, List, length, replicate, Option, Some, refl, sym, subst, ap, inl, inr, arith, rules, eq-eqb}
-use Rattle.std.specs.Prelude.{◌||◌, ◌⊎◌, Contains, All, IfSome, is_some, unwrap_or}
+use Rattle.std.proofs.Common.{◌≡◌, ◌∙◌, ℕ, ◌+◌, ◌<◌, ◌≤◌, Bool, true, false, eqb, List, length, replicate, Some, refl, sym, subst, ap, inl, inr, arith, rules, eq-eqb}
+use Rattle.std.specs.Prelude.{◌||◌, ◌⊎◌, Contains, is_some, unwrap_or}
 use Rattle.std.proofs.lemmas.Bool.{cases_eq, cases_lt, ne_eqb, lt-ltb, le-ltb}
 use Rattle.std.proofs.lemmas.List.{length-replicate}
 use Rattle.std.proofs.lemmas.List.Elements.{All-contains, All-from_recursion}
@@ -9,12 +9,12 @@ use Rattle.page_spec.specs.View.{View, view_with}
 use Rattle.engine_spec.specs.declared.pins.Pin.{Pin}
 use Rattle.engine_spec.specs.declared.commits.PageImage.{PageImage}
 use Rattle.engine_spec.specs.Change.{Change, image_of}
-use Rattle.engine_spec.specs.PageSet.{with_page}
 use Rattle.engine_spec.proofs.PageSets.{with_has, with_keeps, with_cases}
 use Rattle.page_face.specs.declared.engine_tells.EngineTells.{Ghosts}
 use Rattle.overlay.specs.Images.{with_put}
-use Rattle.overlay.specs.Overlay.{OverlayState, own_image, has_own, over_change, with_own, with_new, with_freed_page, last_page, IsInOrder}
-use Rattle.overlay.specs.Live.{IsFreeNumber, greatest_page, AreWhole, IsOfPin}
+use Rattle.overlay.specs.Overlay.{OverlayState, own_image, has_own, over_change, with_own, put_in_overlay, first_in_overlay, with_new, with_freed_page, last_page, IsChangeInOrder}
+use Rattle.overlay.specs.FreeNumbers.{IsFreeNumber}
+use Rattle.overlay.specs.Live.{AreWhole, IsOfPin}
 use Rattle.overlay.specs.Behind.{IsStill}
 use Rattle.overlay.proofs.ImageLaws.{image_put, image_other, all_put}
 
@@ -75,7 +75,7 @@ pub has_still : (change : Change) (page : ℕ) (bytes : List ℕ) (number : ℕ)
 has_still change page bytes number has = has_put change page bytes number ∙ ap (λ (b : Bool). b || eqb number page) has
 
 -- the pages that were given up are the same
-same_freed : (change : Change) (page : ℕ) (bytes : List ℕ) → (with_own change page bytes).freed ≡ change.freed
+pub same_freed : (change : Change) (page : ℕ) (bytes : List ℕ) → (with_own change page bytes).freed ≡ change.freed
 same_freed change page bytes = elim (cases_lt change.base page) [
   | inl past ↦ rw (lt-ltb change.base page past) refl
   | inr below ↦ rw (le-ltb change.base page below) refl
@@ -96,12 +96,55 @@ unfree_put change page bytes number last free = elim free [
   | inr there ↦ inr (subst (λ (freed : List ℕ). Contains freed number) (same_freed change page bytes) there)
 ]
 
--- the transaction is the same
-pub still_put : (overlay : OverlayState) (page : ℕ) (bytes : List ℕ) → IsStill overlay (record overlay { change = with_own overlay.change page bytes })
-still_put overlay page bytes = elim (cases_lt overlay.change.base page) [
-  | inl past ↦ rw (lt-ltb overlay.change.base page past) (record { snap = refl; mode = refl; base = refl; marked = refl; wrote = refl })
-  | inr below ↦ rw (le-ltb overlay.change.base page below) (record { snap = refl; mode = refl; base = refl; marked = refl; wrote = refl })
+-- how it was begun and where its snapshot ends stay
+pub own_mode : (change : Change) (page : ℕ) (bytes : List ℕ) → (with_own change page bytes).mode ≡ change.mode
+own_mode change page bytes = elim (cases_lt change.base page) [
+  | inl past ↦ rw (lt-ltb change.base page past) refl
+  | inr below ↦ rw (le-ltb change.base page below) refl
 ]
+
+pub own_base : (change : Change) (page : ℕ) (bytes : List ℕ) → (with_own change page bytes).base ≡ change.base
+own_base change page bytes = elim (cases_lt change.base page) [
+  | inl past ↦ rw (lt-ltb change.base page past) refl
+  | inr below ↦ rw (le-ltb change.base page below) refl
+]
+
+-- a page that was put since the mark isn't forgotten where one is put
+pub since_put : (images : List PageImage) (page : ℕ) (bytes : List ℕ) (number : ℕ) → is_some (image_of images number) ≡ true
+    → is_some (image_of (with_put images page bytes) number) ≡ true
+since_put images page bytes number there = elim (cases_eq number page) [
+  | inl same ↦ subst (λ (n : ℕ). is_some (image_of (with_put images page bytes) n) ≡ true) (sym same) (ap is_some (image_put images page bytes))
+  | inr apart ↦ ap is_some (image_other images page bytes number apart) ∙ there
+]
+
+since_still : (overlay : OverlayState) (page : ℕ) (bytes : List ℕ) (number : ℕ) → is_some (image_of overlay.since number) ≡ true
+    → is_some (image_of (put_in_overlay overlay page bytes).since number) ≡ true
+since_still overlay page bytes number there = elim (cases_lt overlay.change.base page) [
+  | inl past ↦ rw (lt-ltb overlay.change.base page past) there
+  | inr below ↦ rw (le-ltb overlay.change.base page below) (since_put overlay.since page bytes number there)
+]
+
+-- the transaction is the same
+pub still_put : (overlay : OverlayState) (page : ℕ) (bytes : List ℕ) → IsStill overlay (put_in_overlay overlay page bytes)
+still_put overlay page bytes = record {
+  snap = refl;
+  mode = own_mode overlay.change page bytes;
+  base = own_base overlay.change page bytes;
+  marked = refl;
+  since = λ number there. since_still overlay page bytes number there;
+  wrote = refl;
+}
+
+-- and with page 1 put but for its freelist fields
+pub still_first : (overlay : OverlayState) (bytes : List ℕ) → IsStill overlay (first_in_overlay overlay bytes)
+still_first overlay bytes = record {
+  snap = refl;
+  mode = refl;
+  base = refl;
+  marked = refl;
+  since = λ number there. since_put overlay.since 1 bytes number there;
+  wrote = refl;
+}
 
 -- its pages are whole
 whole_put : (change : Change) (size page : ℕ) (bytes : List ℕ) → length bytes ≡ size → AreWhole size change → AreWhole size (with_own change page bytes)
@@ -117,12 +160,25 @@ whole_put change size page bytes whole all = elim (cases_lt change.base page) [
 module _ {E M : Type 0} (told : Ghosts E M) (engine : E) (pin : Pin) (overlay : OverlayState) (ready : IsOfPin told engine pin overlay) where
   -- the pages may be read with one put
   pub of_pin_put : (page : ℕ) (bytes : List ℕ) → length bytes ≡ (told.state engine).page_size
-      → IsOfPin told engine pin (record overlay { change = with_own overlay.change page bytes })
+      → IsOfPin told engine pin (put_in_overlay overlay page bytes)
   of_pin_put page bytes whole = record {
     hold = ready.hold;
     snap = ready.snap;
     base = ready.base ∙ sym ((still_put overlay page bytes).base);
     whole = whole_put overlay.change (told.state engine).page_size page bytes whole ready.whole;
+    marked = ready.marked;
+  }
+
+  -- and with page 1 put but for its freelist fields
+  pub of_pin_first : (bytes : List ℕ) → length bytes ≡ (told.state engine).page_size → IsOfPin told engine pin (first_in_overlay overlay bytes)
+  of_pin_first bytes whole = record {
+    hold = ready.hold;
+    snap = ready.snap;
+    base = ready.base;
+    whole = record {
+      changed = all_put (λ (image : PageImage). length image.bytes ≡ (told.state engine).page_size) overlay.change.changed 1 bytes ready.whole.changed whole;
+      fresh = ready.whole.fresh;
+    };
     marked = ready.marked;
   }
 
@@ -149,6 +205,45 @@ module _ {E M : Type 0} (told : Ghosts E M) (engine : E) (pin : Pin) (overlay : 
     whole = record { changed = ready.whole.changed; fresh = ready.whole.fresh };
     marked = ready.marked;
   }
+
+-- what stands over a world where page 1 is put but for its freelist fields
+pub over_first : (overlay : OverlayState) (bytes : List ℕ) (world : View) (number : ℕ) → 1 ≤ overlay.change.base
+    → over_change (first_in_overlay overlay bytes).change world number ≡ view_with (over_change overlay.change world) 1 bytes number
+over_first overlay bytes world number some =
+    elim (cases_eq number 1) [
+      | inl same ↦
+          rw (eq-eqb number 1 same)
+          (subst (λ (n : ℕ). over_change (first_in_overlay overlay bytes).change world n ≡ bytes) (sym same)
+          (rw (le-ltb overlay.change.base 1 some) (ap (λ held. unwrap_or held (world 1)) (image_put overlay.change.changed 1 bytes))))
+      | inr apart ↦ rw (ne_eqb number 1 apart) (elim (cases_lt overlay.change.base number) [
+        | inl above ↦ rw (lt-ltb overlay.change.base number above) refl
+        | inr under ↦
+            rw (le-ltb overlay.change.base number under)
+            (ap (λ held. unwrap_or held (world number)) (image_other overlay.change.changed 1 bytes number apart))
+      ])
+    ]
+
+-- which pages are its own then
+pub has_first : (overlay : OverlayState) (bytes : List ℕ) (number : ℕ) → has_own (first_in_overlay overlay bytes).change number ≡ true
+    → (has_own overlay.change number ≡ true) ⊎ (number ≡ 1)
+has_first overlay bytes number has = elim (cases_eq number 1) [
+  | inl same ↦ inr same
+  | inr apart ↦ inl (elim (cases_lt overlay.change.base number) [
+    | inl above ↦ rw (lt-ltb overlay.change.base number above) (rw (lt-ltb overlay.change.base number above) at has)
+    | inr under ↦
+        rw (le-ltb overlay.change.base number under)
+        (sym (ap is_some (image_other overlay.change.changed 1 bytes number apart)) ∙ (rw (le-ltb overlay.change.base number under) at has))
+  ])
+]
+
+pub first_keeps : (overlay : OverlayState) (bytes : List ℕ) (number : ℕ) → has_own overlay.change number ≡ true
+    → has_own (first_in_overlay overlay bytes).change number ≡ true
+first_keeps overlay bytes number has = elim (cases_lt overlay.change.base number) [
+  | inl above ↦ rw (lt-ltb overlay.change.base number above) (rw (lt-ltb overlay.change.base number above) at has)
+  | inr under ↦
+      rw (le-ltb overlay.change.base number under)
+      (since_put overlay.change.changed 1 bytes number (rw (le-ltb overlay.change.base number under) at has))
+]
 
 -- a page that is made changes no other one
 pub own_made : (change : Change) (size number : ℕ) → (number ≡ last_page change + 1 → ⊥) → own_image (with_new change size) number ≡ own_image change number
@@ -181,7 +276,7 @@ module _ (change : Change) (size : ℕ) (last : last_page (with_new change size)
   ]
 
   -- the new page isn't free
-  pub made_unfree : IsInOrder change → IsFreeNumber (with_new change size) (last_page change + 1) → ⊥
+  pub made_unfree : IsChangeInOrder change → IsFreeNumber (with_new change size) (last_page change + 1) → ⊥
   made_unfree order free = elim free [
     | inl past ↦ omega (arith, last, past.0)
     | inr there ↦ (let low = All-contains (λ (page : ℕ). page ≤ last_page change) change.freed (last_page change + 1) order.there there in omega arith)

@@ -1,11 +1,10 @@
 -- What calls leave of what stands behind a transaction's pages is left of it where nothing happens, and over two calls.
-use Rattle.std.specs.Prelude.{◌≡◌, ◌≤◌, [], ◌++◌, List, Option, None, Some, is_some, Result, Ok, Err}
+use Rattle.std.specs.Prelude.{◌≡◌, ℕ, ◌++◌, List, Option, None, Some, is_some, Result, Ok, Err}
 use Rattle.std.proofs.Common.{refl, sym, subst, ap, ◌∙◌, arith, append_assoc}
-use Rattle.disk_face.specs.declared.step.Step.{Step}
 use Rattle.disk_face.specs.Steps.{History}
 use Rattle.crash_spec.specs.Opening.{grown}
 use Rattle.engine_spec.specs.declared.commits.FetchFault.{FetchFault}
-use Rattle.engine_spec.specs.State.{Stop, EngineState, Later, During, KeepsStop, GoesOn}
+use Rattle.engine_spec.specs.State.{Stop, EngineState, During, KeepsStop, GoesOn}
 use Rattle.engine_spec.specs.Events.{Fetches}
 use Rattle.engine_spec.proofs.Here.{during_here}
 use Rattle.page_face.specs.declared.engine_tells.EngineTells.{Ghosts}
@@ -79,7 +78,11 @@ was_read_on told old mid new one two = record {
 
 -- a transaction that stays as it is
 pub still_itself : (overlay : OverlayState) → IsStill overlay overlay
-still_itself overlay = record { snap = refl; mode = refl; base = refl; marked = refl; wrote = refl }
+still_itself overlay = record { snap = refl; mode = refl; base = refl; marked = refl; since = λ page there. there; wrote = refl }
+
+-- and one that read some pages
+pub still_noted : (overlay : OverlayState) (reads : List ℕ) → IsStill overlay (record overlay { reads = reads })
+still_noted overlay reads = record { snap = refl; mode = refl; base = refl; marked = refl; since = λ page there. there; wrote = refl }
 
 pub still_on : (old mid new : OverlayState) → IsStill old mid → IsStill mid new → IsStill old new
 still_on old mid new one two = record {
@@ -87,6 +90,7 @@ still_on old mid new one two = record {
   mode = two.mode ∙ one.mode;
   base = two.base ∙ one.base;
   marked = two.marked ∙ one.marked;
+  since = λ page there. two.since page (one.since page there);
   wrote = two.wrote ∙ one.wrote;
 }
 

@@ -14,7 +14,12 @@ abbrev pub merged : List PageImage → List PageImage → List PageImage
 merged images [] = images
 merged images (image ∷ others) = with_put (merged images others) image.page image.bytes
 
--- images as they are, and as they were at a mark
+-- images as they are, as they were at a mark, and those that were put since
 pub record TwoImages : Type 0 where
   pub now : List PageImage
   pub marked : List PageImage
+  pub since : List PageImage
+
+-- the images with one more put since the mark
+abbrev pub image_put_since : TwoImages → ℕ → List ℕ → TwoImages
+image_put_since images page bytes = record images { now = with_put images.now page bytes; since = with_put images.since page bytes }

@@ -5,6 +5,10 @@ pub mod Layers
 pub mod FreedPages
 pub mod Overlay
 pub mod Parts
+pub mod FreeNumbers
 pub mod Live
 pub mod Behind
 pub mod BehindLaws
+pub mod Own
+pub mod Named
+pub mod Making

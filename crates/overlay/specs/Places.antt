@@ -3,8 +3,8 @@ use Rattle.std.specs.Prelude.{◌≡◌, ℕ, ◌+◌, ◌<◌, ◌≤◌, List,
 use Rattle.engine_spec.specs.declared.commits.PageImage.{PageImage}
 
 -- the numbers of the pages
-abbrev pub pages_of : List PageImage → List ℕ
-pages_of images = map (λ image. image.page) images
+abbrev pub image_numbers : List PageImage → List ℕ
+image_numbers images = map (λ image. image.page) images
 
 -- the numbers rise, and the first is above this one
 abbrev pub RisesFrom : ℕ → List ℕ → Type 0

@@ -14,6 +14,6 @@ room_in (Open items) = vec_capacity items - length items.items
 room_in (Frozen items) = 0
 
 -- items can be put between the others
-abbrev pub is_open : {T : Type 0} → Run T → Bool
-is_open (Open items) = true
-is_open (Frozen items) = false
+abbrev pub run_is_open : {T : Type 0} → Run T → Bool
+run_is_open (Open items) = true
+run_is_open (Frozen items) = false

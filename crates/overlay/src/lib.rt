@@ -7,8 +7,11 @@
 mod freed;
 mod images;
 mod live;
+mod making;
 mod overlay;
+mod own;
 mod run;
+mod taking;
 
 pub use live::Live;
 pub use overlay::{Mark, Overlay};

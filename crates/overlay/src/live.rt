@@ -1,17 +1,18 @@
 // The pages of a transaction over its snapshot.
-ghost use Rattle.std.specs.Prelude.{◌≡◌, ℕ, ◌+◌, ◌*◌, ◌^◌, ◌<◌, ◌≤◌, true, false, ◌∷◌};
-ghost use Rattle.page_spec.specs.Header.{database_limit};
-ghost use Rattle.overlay.specs.Live.{greatest_page};
+ghost use Rattle.std.specs.Prelude.{◌≡◌, ◌∷◌};
 
+use crate::making::make_page;
 use crate::overlay::Overlay;
+use crate::own::fetch_own;
 use page_face::{EditPages, Engine, FetchFault, Means, Pages, PagesTells, Pin, PutPages};
 
 /// A transaction's pages over its snapshot in an engine. It is made in place from its fields, and needs a pin that holds, of the overlay's
 /// snapshot.
 ///
 /// A page that the transaction changed or made is given as it has it. Another one is fetched from the snapshot, and only then it joins
-/// the pages that were read: a page that is put without a fetch isn't read. New pages are numbered behind the last one, and a page that is given up isn't given
-/// out again in the same transaction.
+/// the pages that were read: a page that is put without a fetch isn't read. A plain transaction takes a page of the freelist for a new one,
+/// as long as there is one; a concurrent one never does. Else new pages are numbered behind the last one. A page that is given up isn't
+/// given out again in the same transaction: it joins the freelist at COMMIT.
 #[derive(Drop)]
 pub struct Live<'a, 'b, 'c, M, E> {
     /// What the transaction read and changed.
@@ -25,7 +26,8 @@ pub struct Live<'a, 'b, 'c, M, E> {
 impl<'a, 'b, 'c, M: Means, E: Engine<M>> PagesTells for Live<'a, 'b, 'c, M, E> {
     ghost use Rattle.std.proofs.Common.{refl, ◌∙◌};
     ghost use Rattle.overlay.specs.Overlay.{last_page, has_own, over_change};
-    ghost use Rattle.overlay.specs.Live.{MayBeRead, IsFreeNumber, IsOfPin};
+    ghost use Rattle.overlay.specs.Live.{MayBeRead, IsOfPin};
+    ghost use Rattle.overlay.specs.FreeNumbers.{IsFreeOver, IsNeatOver, SparesOver};
     ghost use Rattle.overlay.specs.Behind.{WasRead, IsStill};
     ghost use Rattle.overlay.specs.BehindLaws.{was_read_itself, was_read_on, still_itself, still_on};
 
@@ -33,11 +35,11 @@ impl<'a, 'b, 'c, M: Means, E: Engine<M>> PagesTells for Live<'a, 'b, 'c, M, E> {
 
     ghost over = { λ live world. over_change live.overlay.now.change world };
 
-    ghost free = { λ live _ number. IsFreeNumber live.overlay.now.change number };
+    ghost free = { λ live world number. IsFreeOver (E.state live.engine.now).usable live.overlay.now.change world number };
 
-    ghost neat = { λ _ _. Unit {0} };
+    ghost neat = { λ live world. IsNeatOver (E.state live.engine.now).usable live.overlay.now.change world };
 
-    ghost spare = { λ _ _. ⊥ };
+    ghost spare = { λ live world. SparesOver live.overlay.now.change world };
 
     ghost ready = { λ live. IsOfPin E.EngineTells live.engine.now live.pin.now live.overlay.now };
 
@@ -80,17 +82,7 @@ impl<'a, 'b, 'c, M: Means, E: Engine<M>> Pages for Live<'a, 'b, 'c, M, E> {
     }
 
     fn fetch(&mut self, page: u32, buf: &mut [u8]) -> Result<(), FetchFault> {
-        if let Some(bytes) = self.overlay.own(page) {
-            buf.copy_from_slice(bytes);
-            return Ok(());
-        }
-        match self.engine.fetch(self.pin, page, buf) {
-            Ok(()) => match self.overlay.note(page) {
-                Ok(()) => Ok(()),
-                Err(_) => Err(FetchFault::Memory),
-            },
-            Err(why) => Err(why),
-        }
+        fetch_own(self.overlay, self.engine, self.pin, page, buf)
     }
 }
 
@@ -105,15 +97,7 @@ impl<'a, 'b, 'c, M: Means, E: Engine<M>> PutPages for Live<'a, 'b, 'c, M, E> {
 
 impl<'a, 'b, 'c, M: Means, E: Engine<M>> EditPages for Live<'a, 'b, 'c, M, E> {
     fn fresh(&mut self) -> Result<u32, FetchFault> {
-        let size = self.engine.page_size();
-        let pages = u64::from(self.overlay.last()) + 1;
-        if is_over(pages, size) {
-            return Err(FetchFault::Size { pages });
-        }
-        match self.overlay.add_page(size) {
-            Ok(page) => Ok(page),
-            Err(_) => Err(FetchFault::Memory),
-        }
+        make_page(self)
     }
 
     fn give_up(&mut self, page: u32) -> Result<(), FetchFault> {
@@ -122,19 +106,4 @@ impl<'a, 'b, 'c, M: Means, E: Engine<M>> EditPages for Live<'a, 'b, 'c, M, E> {
             Err(_) => Err(FetchFault::Memory),
         }
     }
-}
-
-// The most bytes that a database has.
-const MOST_BYTES: u64 = 1 << 30;
-
-// Whether so many pages are more than a database has.
-fn is_over(pages: u64, page_size: usize) -> bool
-    requires few { pages ≤ 2 ^ 32 }
-    requires least { 512 ≤ page_size }
-    requires small { page_size ≤ 65536 }
-    ensures over { result ≡ true → database_limit < pages * page_size }
-    ensures within { result ≡ false → pages * page_size ≤ database_limit }
-    ensures few { result ≡ false → pages ≤ greatest_page }
-{
-    pages * page_size as u64 > MOST_BYTES
 }

@@ -2,7 +2,7 @@
 //
 // The images of changed pages and of new ones and the set of pages that were given up are each kept as they are and as they were at a
 // mark (`images`, `freed`): an undo drops what came since, and a keep moves it down into room that was taken when it came.
-ghost use Rattle.std.specs.Prelude.{◌≡◌, ◌+◌, ◌^◌, ◌<◌, ◌≤◌, false, replicate, IsSome, IfOk, IfSome, OnOk, OnErr, MatchOption, Option};
+ghost use Rattle.std.specs.Prelude.{◌≡◌, ◌+◌, ◌^◌, ◌<◌, ◌≤◌, [], true, false, replicate, is_some, IsSome, IfOk, IfSome, OnOk, OnErr, MatchOption, Option};
 ghost use Rattle.overlay.specs.Overlay.{first_reads};
 
 use crate::freed::FreedPages;
@@ -55,6 +55,7 @@ impl<M> Model for Overlay<M> {
       reads = o.reads;
       change = change_now o.mode o.base o.changed o.fresh o.freed o.tail;
       marked = option_map (change_at o.mode o.base o.changed o.fresh o.freed) o.mark;
+      since = o.changed.since;
       wrote = o.wrote;
     } };
 
@@ -74,12 +75,12 @@ fn reads_of(alloc: Global, mode: Mode) -> Result<ReadSet, AllocError>
 }
 
 impl<M> Overlay<M> {
-    ghost use Rattle.overlay.specs.Overlay.{begun, no_change, overlay_in, IsKept};
+    ghost use Rattle.overlay.specs.Overlay.{overlay_begun, no_change, overlay_in, IsOverlayKept};
 
     /// Begins a transaction on the pin's snapshot: it has changed nothing, and read nothing, but that a plain one has read page 1. The
     /// error is want of memory.
     pub fn new(alloc: Global, pin: &Pin, mode: Mode) -> Result<Overlay<M>, AllocError>
-        ensures { IfOk result (λ overlay. overlay ≡ begun pin.now mode) }
+        ensures { IfOk result (λ overlay. overlay ≡ overlay_begun pin.now mode) }
     {
         let reads = reads_of(alloc, mode)?;
         Ok(Overlay::unchanged(alloc, mode, pin.n, pin.size, reads))
@@ -88,7 +89,7 @@ impl<M> Overlay<M> {
     // A transaction that has read these pages, and changed nothing.
     fn unchanged(alloc: Global, mode: Mode, snap: u64, base: u32, reads: ReadSet) -> Overlay<M>
         requires { reads ≡ first_reads mode }
-        ensures { result ≡ record { snap = snap; reads = first_reads mode; change = no_change mode base; marked = Option.None; wrote = false } }
+        ensures { result ≡ record { snap = snap; reads = first_reads mode; change = no_change mode base; marked = Option.None; since = []; wrote = false } }
     {
         Overlay {
             alloc,
@@ -110,7 +111,7 @@ impl<M> Overlay<M> {
     /// Opens a mark at what is changed now; none is open. The error is want of memory, and leaves the overlay as it was.
     pub fn mark(&mut self) -> Result<(), AllocError>
         requires { self.old.marked ≡ Option.None }
-        ensures ok { OnOk result (self.new ≡ record self.old { marked = Option.Some self.old.change }) }
+        ensures ok { OnOk result (self.new ≡ record self.old { marked = Option.Some self.old.change; since = [] }) }
         ensures err { OnErr result (self.new ≡ self.old) }
     {
         self.changed.mark();
@@ -126,7 +127,7 @@ impl<M> Overlay<M> {
     /// Takes the changed, new and freed pages back to the open mark, and closes it. What was read stays read. It takes no memory.
     pub fn undo(&mut self)
         requires { IsSome self.old.marked }
-        ensures { IfSome self.old.marked (λ change. self.new ≡ record self.old { change = change; marked = Option.None }) }
+        ensures { IfSome self.old.marked (λ change. self.new ≡ record self.old { change = change; marked = Option.None; since = [] }) }
     {
         if let Some(mark) = self.mark {
             self.changed.undo();
@@ -141,7 +142,7 @@ impl<M> Overlay<M> {
     /// Keeps what was changed since the open mark, and closes it. It takes no memory.
     pub fn keep(&mut self)
         requires { IsSome self.old.marked }
-        ensures { self.new ≡ record self.old { marked = Option.None } }
+        ensures { self.new ≡ record self.old { marked = Option.None; since = [] } }
     {
         self.changed.mark();
         self.fresh.mark();
@@ -165,9 +166,9 @@ impl<M> Overlay<M> {
 
     /// Makes it ready to be committed, with the texts of its accepted statements. An open mark is forgotten. It takes no memory.
     pub fn freeze(self, said: Items<Txt>) -> Prepared<M>
-        ensures overlay { overlay_in result ≡ record self { marked = Option.None } }
+        ensures overlay { overlay_in result ≡ record self { marked = Option.None; since = [] } }
         ensures said { result.said ≡ said }
-        ensures kept { IsKept (overlay_in result) }
+        ensures kept { IsOverlayKept (overlay_in result) }
     {
         let Overlay {
             alloc: _,
@@ -201,7 +202,7 @@ impl<M> Overlay<M> {
 
     /// What a transaction was before it was made ready, and the texts of its accepted statements. No mark is open. It takes no memory.
     pub fn thaw(alloc: Global, prepared: Prepared<M>) -> (Overlay<M>, Items<Txt>)
-        requires { IsKept (overlay_in prepared) }
+        requires { IsOverlayKept (overlay_in prepared) }
         ensures { result ≡ (overlay_in prepared, prepared.said) }
     {
         let Prepared {
@@ -241,12 +242,26 @@ impl<M> Overlay<M> {
 
 impl<M> Overlay<M> {
     ghost use Rattle.engine_spec.specs.PageSet.{with_page};
-    ghost use Rattle.overlay.specs.Overlay.{last_page, own_image, with_own, with_new, with_freed_page, IsKept};
+    ghost use Rattle.engine_spec.specs.Change.{image_of};
+    ghost use Rattle.overlay.specs.Overlay.{last_page, own_image, put_in_overlay, first_in_overlay, with_new, with_freed_page, IsOverlayKept};
+
+    /// Where it takes its memory from.
+    pub fn alloc(&self) -> Global {
+        self.alloc
+    }
+
+    /// How the transaction was begun.
+    pub fn mode(&self) -> Mode
+        ensures value { result ≡ self.now.change.mode }
+        ensures kept { IsOverlayKept self.now }
+    {
+        self.mode
+    }
 
     /// The number of the last page: those of the snapshot come first, and then the new ones.
     pub fn last(&self) -> u32
         ensures value { result ≡ last_page self.now.change }
-        ensures kept { IsKept self.now }
+        ensures kept { IsOverlayKept self.now }
     {
         self.base + self.made
     }
@@ -254,7 +269,7 @@ impl<M> Overlay<M> {
     /// The bytes of a page that was changed or made.
     pub fn own(&self, page: u32) -> Option<&[u8]>
         ensures bytes { MatchOption result (own_image self.now.change page ≡ Option.None) (λ bytes. own_image self.now.change page ≡ Option.Some bytes.now) }
-        ensures kept { IsKept self.now }
+        ensures kept { IsOverlayKept self.now }
     {
         if page > self.base {
             self.fresh.find(page)
@@ -274,7 +289,7 @@ impl<M> Overlay<M> {
     /// Puts bytes in the place of a page. The error is want of memory, and leaves the overlay as it was.
     pub fn put(&mut self, page: u32, bytes: &[u8]) -> Result<(), AllocError>
         requires { (1 ≤ page) × (page ≤ last_page self.old.change) }
-        ensures ok { OnOk result (self.new ≡ record self.old { change = with_own self.old.change page bytes.now }) }
+        ensures ok { OnOk result (self.new ≡ put_in_overlay self.old page bytes.now) }
         ensures err { OnErr result (self.new ≡ self.old) }
         ensures last { last_page self.new.change ≡ last_page self.old.change }
     {
@@ -285,6 +300,32 @@ impl<M> Overlay<M> {
         self.changed.put(page, copy)?;
         self.tail = self.tail || page == 1;
         Ok(())
+    }
+
+    /// Puts page 1 as it is but for its freelist fields. The error is want of memory, and leaves the overlay as it was.
+    pub fn put_first(&mut self, bytes: &[u8]) -> Result<(), AllocError>
+        requires { 1 ≤ self.old.change.base }
+        ensures ok { OnOk result (self.new ≡ first_in_overlay self.old bytes.now) }
+        ensures err { OnErr result (self.new ≡ self.old) }
+    {
+        let copy = Bytes::of(self.alloc, bytes)?;
+        self.changed.put(1, copy)
+    }
+
+    /// Puts page 1 again, which was put since the mark, as it is but for its freelist fields. It takes no memory.
+    pub fn replace_first(&mut self, bytes: Bytes)
+        requires base { 1 ≤ self.old.change.base }
+        requires there { is_some (image_of self.old.since 1) ≡ true }
+        ensures { self.new ≡ first_in_overlay self.old bytes }
+    {
+        self.changed.replace(1, bytes);
+    }
+
+    /// A buffer of so many zero bytes.
+    pub fn buffer(&self, size: usize) -> Result<Vec<u8>, AllocError>
+        ensures { IfOk result (λ bytes. bytes.items ≡ replicate size 0) }
+    {
+        vec![in self.alloc; 0; size]
     }
 
     /// Numbers a new page of so many zero bytes, behind the last one. The error is want of memory, and leaves the overlay as it was.

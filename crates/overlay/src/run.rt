@@ -18,7 +18,7 @@ pub enum Run<T> {
 }
 
 impl<T: Drop> Run<T> {
-    ghost use Rattle.overlay.specs.Runs.{items_in, room_in, is_open};
+    ghost use Rattle.overlay.specs.Runs.{items_in, room_in, run_is_open};
 
     /// All items.
     pub fn as_slice(&self) -> &[T]
@@ -34,7 +34,7 @@ impl<T: Drop> Run<T> {
     fn unfreeze(&mut self, alloc: Global) -> Result<(), AllocError>
         ensures items { items_in self.new ≡ items_in self.old }
         ensures room { room_in self.old ≤ room_in self.new }
-        ensures is_open { OnOk result (is_open self.new ≡ true) }
+        ensures run_is_open { OnOk result (run_is_open self.new ≡ true) }
     {
         if let Run::Frozen(items) = self {
             let moved = moved(alloc, items)?;

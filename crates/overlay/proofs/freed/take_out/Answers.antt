@@ -1,4 +1,4 @@
-use Rattle.std.proofs.Common.{◌≡◌, ◌∙◌, ℕ, List, Result, Ok, Err, sym, subst}
+use Rattle.std.proofs.Common.{◌∙◌, ℕ, List, Ok, Err, sym, subst}
 use Rattle.overlay.specs.Places.{IsPlace}
 use Rattle.overlay.specs.Runs.{items_in}
 use Rattle.overlay.proofs.FreedLaws.{without_there, without_none}

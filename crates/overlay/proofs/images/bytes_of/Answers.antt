@@ -1,4 +1,4 @@
-use Rattle.std.proofs.Common.{◌≡◌, ◌∙◌, List, ℕ, Some, sym, ap}
+use Rattle.std.proofs.Common.{◌∙◌, List, ℕ, Some, sym, ap}
 use Rattle.overlay.proofs.Searching.{image_there, image_none}
 use Rattle.overlay.proofs.images.bytes_of.Goals as goal
 

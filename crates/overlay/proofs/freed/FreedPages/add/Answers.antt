@@ -1,8 +1,8 @@
-use Rattle.std.proofs.Common.{◌≡◌, ◌∙◌, ℕ, List, ◌∷◌, [], ◌++◌, Result, Ok, Err, sym, subst, ap}
+use Rattle.std.proofs.Common.{◌≡◌, ◌∙◌, ℕ, List, ◌∷◌, [], ◌++◌, Ok, Err, sym, subst, ap}
 use Rattle.std.specs.List.{insert}
 use Rattle.engine_spec.specs.PageSet.{with_page}
 use Rattle.overlay.specs.Places.{RisesFrom, IsPlace}
-use Rattle.overlay.specs.FreedPages.{TwoSets, taken_back, without_page}
+use Rattle.overlay.specs.FreedPages.{TwoSets, taken_back}
 use Rattle.overlay.specs.Runs.{items_in}
 use Rattle.overlay.proofs.FreedLaws.{with_found, with_missed, rises_with, without_with, taken_last}
 use Rattle.overlay.proofs.freed.FreedPages.add.Goals as goal

@@ -1,4 +1,4 @@
-use Rattle.std.proofs.Common.{◌≡◌, ◌∙◌, ℕ, List, sym, subst, ap}
+use Rattle.std.proofs.Common.{◌∙◌, ℕ, List, sym, subst, ap}
 use Rattle.overlay.specs.Places.{RisesFrom}
 use Rattle.overlay.specs.FreedPages.{taken_back}
 use Rattle.overlay.specs.Runs.{items_in}

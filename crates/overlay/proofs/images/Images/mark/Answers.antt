@@ -1,4 +1,4 @@
-use Rattle.std.proofs.Common.{◌≡◌, ◌∙◌, List, sym, subst, ap}
+use Rattle.std.proofs.Common.{◌∙◌, List, sym, subst, ap}
 use Rattle.engine_spec.specs.declared.commits.PageImage.{PageImage}
 use Rattle.overlay.specs.Images.{merged}
 use Rattle.overlay.specs.Layers.{AreLayers}

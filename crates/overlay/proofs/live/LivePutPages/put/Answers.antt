@@ -1,9 +1,11 @@
-use Rattle.std.proofs.Common.{◌≡◌, ◌∙◌, ℕ, ◌≤◌, List, true, refl, sym, subst, ap, arith}
+use Rattle.std.proofs.Common.{◌≡◌, ◌∙◌, refl, sym, subst, ap, arith}
 use Rattle.overlay.specs.Overlay.{OverlayState, has_own, over_change, last_page, with_own}
-use Rattle.overlay.specs.Live.{IsFreeNumber, IsOfPin}
+use Rattle.overlay.specs.Live.{IsOfPin}
 use Rattle.overlay.specs.Behind.{IsStill}
 use Rattle.overlay.specs.BehindLaws.{was_read_itself, still_itself}
-use Rattle.overlay.proofs.Writing.{over_put, has_put, has_still, free_put, unfree_put, still_put, of_pin_put}
+use Rattle.overlay.proofs.Writing.{over_put, has_put, has_still, still_put, of_pin_put}
+use Rattle.overlay.proofs.Listing.{KeepsFreeOver, same_over}
+use Rattle.overlay.proofs.FreeOver.{keeps_put}
 use Rattle.overlay.proofs.live.LivePutPages.put.Goals as goal
 
 pub returns-in-Ok : goal.returns-in-Ok
@@ -13,6 +15,7 @@ returns-in-Ok g c =
     let old = live.overlay.now in
     let page = c.args.page in
     let bytes = c.args.bytes.now in
+    let usable = (told.state live.engine.now).usable in
     let is = c.in-Ok.ensures.ok in
     let reads : c.put.new.self.reads ≡ old.reads = ap (λ (o : OverlayState). o.reads) is in
     let last : last_page (with_own old.change page bytes) ≡ last_page old.change =
@@ -20,13 +23,10 @@ returns-in-Ok g c =
     record {
       put = λ world may. record {
         each = λ number. ap (λ (o : OverlayState). over_change o.change world number) is ∙ over_put old.change page bytes world number;
-        list = λ used neat fields. record {
-          stay = λ number free. subst (λ (o : OverlayState). IsFreeNumber o.change number) (sym is) (free_put old.change page bytes number last free);
-          none_more = λ number free. unfree_put old.change page bytes number last (subst (λ (o : OverlayState). IsFreeNumber o.change number) is free);
-          neat = λ neat. neat;
-          spare = λ spare. spare;
-          no_more_spare = λ spare. spare;
-        };
+        list = λ used neat fields.
+            let kept = subst (λ (o : OverlayState). KeepsFreeOver usable usable old.change o.change world) (sym is)
+            (keeps_put usable old.change page bytes world last used neat fields) in
+            record { stay = kept.stay; none_more = kept.none_more; neat = kept.neat; spare = kept.spare; no_more_spare = kept.no_more_spare };
       };
       has = λ number. ap (λ (o : OverlayState). has_own o.change number) is ∙ has_put old.change page bytes number;
       refused = tt;
@@ -54,6 +54,7 @@ returns-in-Err g c =
     let live = c.args.self.now in
     let told = g.E.EngineTells in
     let old = live.overlay.now in
+    let usable = (told.state live.engine.now).usable in
     let is = c.in-Err.ensures.err in
     let reads : c.put.new.self.reads ≡ old.reads = ap (λ (o : OverlayState). o.reads) is in
     let last : last_page c.put.new.self.change ≡ last_page old.change = ap (λ (o : OverlayState). last_page o.change) is in
@@ -61,15 +62,9 @@ returns-in-Err g c =
       put = tt;
       has = tt;
       refused = record {
-        each = λ world may. record {
+        each = λ world may. let kept = same_over usable usable old.change c.put.new.self.change world refl (ap (λ (o : OverlayState). o.change) is) in record {
           each = λ number. ap (λ (o : OverlayState). over_change o.change world number) is;
-          list = record {
-            stay = λ number. subst (λ (o : OverlayState). IsFreeNumber o.change number) (sym is);
-            none_more = λ number. subst (λ (o : OverlayState). IsFreeNumber o.change number) is;
-            neat = λ neat. neat;
-            spare = λ spare. spare;
-            no_more_spare = λ spare. spare;
-          };
+          list = record { stay = kept.stay; none_more = kept.none_more; neat = kept.neat; spare = kept.spare; no_more_spare = kept.no_more_spare };
         };
         last = last;
         has = λ number. ap (λ (o : OverlayState). has_own o.change number) is;

@@ -1,4 +1,4 @@
-use Rattle.std.proofs.Common.{◌≡◌, ◌∙◌, ℕ, ◌+◌, ◌<◌, ◌^◌, length, sym, subst, ap, arith}
+use Rattle.std.proofs.Common.{◌≡◌, ◌∙◌, ◌+◌, ◌<◌, ◌^◌, length, sym, subst, ap, arith}
 use Rattle.overlay.specs.Overlay.{OverlayState, last_page}
 use Rattle.overlay.proofs.PartsLaws.{parts_made}
 use Rattle.overlay.proofs.overlay.Overlay.add_page.Goals as goal

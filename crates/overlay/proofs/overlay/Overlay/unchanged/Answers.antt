@@ -1,4 +1,4 @@
-use Rattle.std.proofs.Common.{◌≡◌, ◌<◌, ◌^◌, ℕ, List, refl, sym, subst, arith}
+use Rattle.std.proofs.Common.{◌<◌, ◌^◌, ℕ, List, refl, sym, subst, arith}
 use Rattle.std.specs.Prelude.{Contains}
 use Rattle.overlay.proofs.Numbers.{first_there}
 use Rattle.overlay.proofs.InOrder.{nothing_in_order}
