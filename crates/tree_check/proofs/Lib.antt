@@ -1,0 +1,10 @@
+mod Bits
+mod Chaining
+mod Freeing
+mod Linking
+mod Meeting
+mod Nodes
+mod Numbers
+mod Reaching
+mod Rowids
+mod Trunks
