@@ -1,0 +1,6 @@
+pub mod Edits
+pub mod Storing
+pub mod Given
+pub mod Settled
+pub mod Sizes
+pub mod Rooted

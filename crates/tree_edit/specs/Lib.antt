@@ -1,0 +1,4 @@
+pub mod Editing
+pub mod Settling
+pub mod Dividing
+pub mod Roots
