@@ -1,2 +1,7 @@
 pub mod Rows
 pub mod KeyLaws
+mod UpKeys
+mod Weights
+mod Dividing
+mod RowCuts
+mod Crowds
