@@ -1,7 +1,2 @@
 pub mod Rows
 pub mod KeyLaws
-mod UpKeys
-mod Weights
-mod Dividing
-mod RowCuts
-mod Crowds

@@ -1,4 +1,3 @@
 pub mod Runs
 pub mod Editing
 pub mod Keys
-pub mod Dividing

@@ -13,10 +13,9 @@ use Rattle.opening_spec.specs.Found.{OpeningView}
 use Rattle.engine_spec.specs.declared.pins.Readers.{Readers}
 use Rattle.wal_index.specs.Index.{Indexed, IndexedLog}
 use Rattle.wal_rules.specs.declared.state.LogState.{LogState}
-use Rattle.recover.specs.NewPages.{new_count, new_pages, migrated}
+use Rattle.recover.specs.NewPages.{new_pages, migrated}
 use Rattle.recover.specs.Ready.{IsNewPair, IsReady}
 use Rattle.recover.specs.Seeing.{SeenView, is_new_in, is_ours_in, size_in, first_in, two_in, map_found, fault_of, files_told, is_front_ours, RefusesLook}
-use Rattle.recover.specs.declared.setup.StoreKind.{StoreKind}
 use Rattle.recover.specs.declared.setup.StoreKind.TheVariants.{Pages}
 use Rattle.recover.specs.declared.seen.LookFault.{LookFault}
 use Rattle.recover.specs.declared.seen.LookFault.TheVariants as look
@@ -72,18 +71,10 @@ is_mixed files = is_mixed_by (is_new_in files) (is_ours_in files) (front_of 2 fi
 abbrev pub size_opened : (new_size : ℕ) → Files → ℕ
 size_opened new_size files = if is_new_in files then new_size else size_in files
 
--- The map with which a store of this kind begins: the pages of a new database, the recovered map, or that with this program's versions.
-abbrev pub map_begun : StoreKind → (new_size : ℕ) → Files → PageMap
-map_begun kind new_size files =
-    if is_new_in files then new_pages kind new_size else (if is_ours_in files then recovered files else migrated (recovered files))
-
--- and a page store
+-- The map with which the store begins: the pages of a new database, the recovered map, or that with this program's versions.
 abbrev pub map_opened : (new_size : ℕ) → Files → PageMap
-map_opened new_size files = map_begun Pages new_size files
-
--- how many pages a store of this kind begins with, by what was seen
-abbrev pub count_begun : StoreKind → SeenView → ℕ
-count_begun kind seen = if seen.is_new then new_count kind else length seen.places
+map_opened new_size files =
+    if is_new_in files then new_pages Pages new_size else (if is_ours_in files then recovered files else migrated (recovered files))
 
 -- Where the versions aren't this program's, log 2 has no accepted frame: so it is on files on which only this program and others that know one log worked.
 abbrev pub MaySettle : Files → Type 0
@@ -104,21 +95,17 @@ no_frames = record { log1 = no_log; log2 = no_log; last = 1 }
 abbrev pub first_state : LogState
 first_state = record { current = 1; done = true; copied = 0 }
 
--- A store as it begins, without a commit: of so many pages of this size, of which so much is in use, and with this limit on the frames of a log.
-pub record BeginsWith (count bytes used most : ℕ) (kept : StoreData) : Type 0 where
+-- A store as it begins, without a commit: of 16 pages of this size, of which so much is in use, and with this limit on the frames of a log.
+pub record IsBeginning (bytes used most : ℕ) (kept : StoreData) : Type 0 where
   pub page_size : kept.page_size ≡ bytes
   pub usable : kept.usable ≡ used
-  pub size : kept.size ≡ count
+  pub size : kept.size ≡ page_count
   pub limit : kept.limit ≡ most
   pub pair : IsNewPair bytes kept.pair
   pub index : kept.index ≡ no_frames
   pub state : kept.state ≡ first_state
   pub history : kept.history ≡ []
   pub stop : kept.stop ≡ None
-
--- a page store as it begins
-abbrev pub IsBeginning : (bytes used most : ℕ) → StoreData → Type 0
-IsBeginning bytes used most kept = BeginsWith page_count bytes used most kept
 
 -- the disk behind an answer
 abbrev pub disk_of : {D W M : Type 0} → Result (Store D W M) (OpenFault × D) → D

@@ -1,8 +1,8 @@
 // A store is opened over a disk, and closed.
-ghost use Rattle.std.specs.Prelude.{◌≡◌, ◌*◌, ◌≤◌, ◌<◌, true, false, [], length, map, None, Some, IfOk, IfErr, IfSome, IsTrue};
+ghost use Rattle.std.specs.Prelude.{◌≡◌, ◌≤◌, ◌<◌, true, false, [], length, map, Some, IfOk, IfErr, IfSome, IsTrue};
 ghost use Rattle.disk_face.specs.Stays.{OnlyWrites};
 ghost use Rattle.disk_face.specs.Steps.{History, reads};
-ghost use Rattle.page_spec.specs.Header.{database_limit, is_page_size};
+ghost use Rattle.page_spec.specs.Header.{is_page_size};
 ghost use Rattle.page_spec.specs.PageMap.{PageMap};
 ghost use Rattle.crash_spec.specs.Opening.{Since, opening_at};
 ghost use Rattle.crash_spec.specs.Passes.{Passes};
@@ -11,12 +11,12 @@ ghost use Rattle.opening_spec.specs.Found.{FoundLog, OpeningView};
 ghost use Rattle.opening_spec.specs.States.{IsSyncing};
 ghost use Rattle.opening_spec.specs.Begins.{MayOpen, view_at};
 ghost use Rattle.recover.specs.Ready.{IsViewOf, LeavesSettling, first_map};
-ghost use Rattle.recover.specs.Seeing.{IsSeen, IsWholeSeen, fault_of, generation_opened};
+ghost use Rattle.recover.specs.Seeing.{IsSeen, IsWholeSeen, generation_opened};
 ghost use Rattle.recover.specs.declared.setup.StoreKind.TheVariants.{Pages};
 ghost use Rattle.store_spec.specs.Store.{newest_told};
 ghost use Rattle.store_spec.specs.Standing.{IsWholeStore, StandsFrom};
 ghost use Rattle.store.specs.Kept.{kept_of, IsAble, IsLiveIn};
-ghost use Rattle.store.specs.Opening.{AreOpened, BeginsWith, HasSizesOf, IsBeginning, MaySettle, ReadyAs, StandsAs, FailsToSettle, RefusesOpen, count_begun, disk_of, map_begun, map_opened, no_readers, size_opened};
+ghost use Rattle.store.specs.Opening.{AreOpened, HasSizesOf, IsBeginning, MaySettle, ReadyAs, StandsAs, FailsToSettle, RefusesOpen, disk_of, map_opened, no_readers, size_opened};
 
 use crate::commits::Commits;
 use crate::kept_pages::KeptPages;
@@ -32,27 +32,27 @@ use wal_frames::ScanFault;
 use wal_index::WalIndex;
 use wal_rules::LogState;
 
-/// Does the writes of an opening, and makes the store of what was seen, which has so many pages. Its page buffer is taken before the first write.
-fn settle_as<D: Disk, W: Salts + Drop, M: Means>(
+/// Does the writes of an opening, and makes the store of what was seen. Its page buffer is taken before the first write.
+fn settle_pages<D: Disk, W: Salts + Drop, M: Means>(
     alloc: Global,
     disk: D,
     salts: W,
     seen: Seen,
     setup: Setup,
-    size: u32,
 ) -> Result<Store<D, W, M>, (OpenFault, D)>
     requires attached { D.attached disk ≡ true }
     requires page_size { IsTrue (is_page_size setup.page_size) }
+    requires kind { setup.kind ≡ Pages }
     requires whole { IsWholeSeen seen }
     requires new_size { seen.is_new ≡ true → seen.page_size ≡ setup.page_size }
     requires seen { IfSome (D.told disk) (λ told. IsSeen setup.page_size (reads told) seen) }
     requires named { seen.is_new ≡ false → seen.named ≡ length seen.places }
-    ensures begins { IfOk result (λ store. BeginsWith size seen.page_size seen.usable setup.limit (kept_of store)) }
+    ensures begins { IfOk result (λ store. IsBeginning seen.page_size seen.usable setup.limit (kept_of store)) }
     ensures generation { IfOk result (λ store. IfSome (D.told disk) (λ told. (current_header (kept_of store).pair).generation ≡ generation_opened (reads told))) }
     ensures able { IfOk result (λ store. IsAble D.DiskTells store) }
     ensures moments { (view : OpeningView) (one two : FoundLog) → Since view.opening.start (IsSyncing view one two []) (D.told disk)
         → IfSome (D.told disk) (λ told. IsViewOf seen (reads told) view one two)
-        → Passes view.opening (LeavesSettling view (first_map setup.kind seen view.size view.map)) (ReadyAs result view (first_map setup.kind seen view.size view.map)) (D.told disk) (D.told (disk_of result)) }
+        → Passes view.opening (LeavesSettling view (first_map Pages seen view.size view.map)) (ReadyAs result view (first_map Pages seen view.size view.map)) (D.told disk) (D.told (disk_of result)) }
     ensures refused { IfErr result (λ refused. FailsToSettle (D.faults disk) (D.faults refused.1) (D.told disk) (D.told refused.1) refused.0) }
     ensures faults { IfOk result (λ store. D.faults store.disk ≡ D.faults disk) }
     ensures stays { OnlyWrites D.DiskTells disk (disk_of result) }
@@ -70,7 +70,7 @@ fn settle_as<D: Disk, W: Salts + Drop, M: Means>(
                 salts,
                 page_size,
                 usable,
-                size,
+                size: PAGE_COUNT,
                 limit: setup.limit,
                 pair,
                 index: WalIndex::new(alloc),
@@ -89,49 +89,6 @@ fn settle_as<D: Disk, W: Salts + Drop, M: Means>(
             Err(ScanFault::Memory) => Err((OpenFault::Memory, disk)),
         },
         Err(_) => Err((OpenFault::Memory, disk)),
-    }
-}
-
-/// Opens what was seen, once it was judged, as a store of this kind with so many pages.
-///
-/// What it needs beside what a look gives is that page 1 names the size of the recovered map, and that the map fits a database: whoever judged what was
-/// seen has found that.
-fn open_seen<D: Disk, W: Salts + Drop, M: Means>(
-    alloc: Global,
-    disk: D,
-    salts: W,
-    seen: Seen,
-    setup: Setup,
-    size: u32,
-) -> Result<Store<D, W, M>, (OpenFault, D)>
-    requires attached { D.attached disk ≡ true }
-    requires page_size { IsTrue (is_page_size setup.page_size) }
-    requires limit { 1 ≤ setup.limit }
-    requires whole { IsWholeSeen seen }
-    requires new_size { seen.is_new ≡ true → seen.page_size ≡ setup.page_size }
-    requires seen { IfSome (D.told disk) (λ told. IsSeen setup.page_size (reads told) seen) }
-    requires fine { IfSome (D.told disk) (λ told. fault_of (reads told) false ≡ None) }
-    requires named { seen.is_new ≡ false → seen.named ≡ length seen.places }
-    requires counts { count_begun setup.kind seen ≡ size }
-    requires some { 1 ≤ size }
-    requires fits { size * seen.page_size ≤ database_limit }
-    ensures begins { IfOk result (λ store. BeginsWith size seen.page_size seen.usable setup.limit (kept_of store)) }
-    ensures whole { IfOk result (λ store. IsWholeStore (kept_of store)) }
-    ensures generation { IfOk result (λ store. IfSome (D.told disk) (λ told. (current_header (kept_of store).pair).generation ≡ generation_opened (reads told))) }
-    ensures live { IfOk result (λ store. IfSome (D.told disk) (λ told. MaySettle (reads told)) → IsLiveIn D.DiskTells store no_readers []) }
-    ensures newest { IfOk result (λ store. IfSome (D.told disk) (λ told. MaySettle (reads told) → newest_told (kept_of store) (D.told store.disk) ≡ Some (map_begun setup.kind setup.page_size (reads told)))) }
-    ensures runs { IfOk result (λ store. (first : PageMap) → IfSome (D.told disk) (λ told. MaySettle (reads told) × (first ≡ map_begun setup.kind setup.page_size (reads told)) × M.sound first first)
-        → StandsFrom (M.sound first) (M.leads first) first (D.told store.disk) (kept_of store) no_readers) }
-    ensures moments { (told : History) → D.told disk ≡ Some told → MayOpen (size_opened setup.page_size (reads told)) told → MaySettle (reads told)
-        → Passes (opening_at told) (LeavesSettling (view_at (size_opened setup.page_size (reads told)) told) (map_begun setup.kind setup.page_size (reads told))) (StandsAs result (opening_at told)) (D.told disk) (D.told (disk_of result)) }
-    ensures refused { IfErr result (λ refused. FailsToSettle (D.faults disk) (D.faults refused.1) (D.told disk) (D.told refused.1) refused.0) }
-    ensures faults { IfOk result (λ store. D.faults store.disk ≡ D.faults disk) }
-    ensures stays { OnlyWrites D.DiskTells disk (disk_of result) }
-    ensures loans { IfOk result (λ store. W.loans store.salts ≡ W.loans salts) }
-{
-    match settle_as(alloc, disk, salts, seen, setup, size) {
-        Ok(store) => Ok(store),
-        Err(refused) => Err(refused),
     }
 }
 
@@ -184,7 +141,7 @@ impl<D: Disk, W: Salts + Drop, M: Means> Store<D, W, M> {
                         let (pages, byte) = (seen.pages(), seen.byte());
                         return Err((OpenFault::NotPages { pages, byte }, disk));
                     }
-                    match open_seen(alloc, disk, salts, seen, setup, PAGE_COUNT) {
+                    match settle_pages(alloc, disk, salts, seen, setup) {
                         Ok(store) => Ok(store),
                         Err(refused) => Err(refused),
                     }

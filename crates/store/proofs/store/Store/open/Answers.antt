@@ -1,20 +1,10 @@
-use Rattle.std.proofs.Common.{◌≡◌, Option, None, Some, false, ◌∙◌, sym, ap, subst}
-use Rattle.std.specs.Prelude.{IfSome}
-use Rattle.page_spec.specs.PageMap.{PageMap}
-use Rattle.crash_spec.specs.Opening.{opening_at}
-use Rattle.crash_spec.specs.Passes.{Passes}
-use Rattle.opening_spec.specs.Begins.{MayOpen, view_at}
-use Rattle.recover.specs.Ready.{LeavesSettling}
-use Rattle.recover.specs.Seeing.{fault_of}
-use Rattle.recover.specs.declared.setup.StoreKind.{StoreKind}
-use Rattle.recover.specs.declared.setup.StoreKind.TheVariants.{Pages}
-use Rattle.disk_face.specs.Steps.{History, reads}
+use Rattle.std.proofs.Common.{◌∙◌, sym}
+use Rattle.recover.specs.Ready.{IsReady}
+use Rattle.disk_face.specs.Steps.{reads}
 use Rattle.store.specs.Kept.{kept_of}
-use Rattle.store_spec.specs.Store.{newest_told}
-use Rattle.store_spec.specs.Standing.{StandsFrom, StandsOn}
-use Rattle.store.specs.Opening.{MaySettle, count_begun, map_begun, map_opened, no_readers, size_opened}
-use Rattle.store.proofs.OpenLaws.{pages_begun, pages_may, quiet}
-use Rattle.store.proofs.Opened.{seen_still, fine_still, said_still}
+use Rattle.store.specs.Opening.{map_opened, size_opened}
+use Rattle.store.proofs.OpenLaws.{whole_of, may_begin, live_of, newest_of, from_of, stands_of, failed_of, quiet}
+use Rattle.store.proofs.Opened.{seen_still, fine_still, says_still}
 use Rattle.store.proofs.store.Store.open.Goals as goal
 
 pub returns-in-Some-clause-moments : goal.returns-in-Some-clause-moments
@@ -29,47 +19,61 @@ pub returns-then-is_mixed-clause-moments : goal.returns-then-is_mixed-clause-mom
 returns-then-is_mixed-clause-moments g c told is may settle =
     quiet (size_opened c.args.setup.page_size (reads told)) (map_opened c.args.setup.page_size (reads told)) told _ _ is c.in-Ok.ensures.stays.told may
 
-pub open_seen-requires-clause-counts : goal.open_seen-requires-clause-counts
-open_seen-requires-clause-counts g c = ap (λ (kind : StoreKind). count_begun kind c.in-Ok.seen) c.requires.kind ∙ pages_begun c.in-Ok.seen (sym c.pages_fault.ensures ∙ c.in-None.is)
+pub returns-in-Ok-settle_pages-clause-whole : goal.returns-in-Ok-settle_pages-clause-whole
+returns-in-Ok-settle_pages-clause-whole g c =
+    let seen = c.in-Ok.seen in
+    whole_of seen.page_size seen.usable c.args.setup.limit (kept_of c.in-Ok-settle_pages.store) c.in-Ok-settle_pages.ensures.begins
+    (may_begin seen c.args.setup.limit c.in-Ok.ensures.seen.whole c.requires.limit)
 
-pub open_seen-requires-clause-fits : goal.open_seen-requires-clause-fits
-open_seen-requires-clause-fits g c = (pages_may c.in-Ok.seen c.args.setup.limit c.in-Ok.ensures.seen.whole c.requires.limit).fits
+pub returns-in-Ok-settle_pages-clause-live : goal.returns-in-Ok-settle_pages-clause-live
+returns-in-Ok-settle_pages-clause-live g c settle =
+    let seen = c.in-Ok.seen in
+    let s = c.in-Ok.ensures.seen in
+    let e = c.in-Ok-settle_pages.ensures in
+    let old = g.D.DiskTells.told c.args.disk in
+    let live = live_of c.args.setup.page_size c.args.setup.limit seen s.whole s.new (sym c.pages_fault.ensures ∙ c.in-None.is) c.requires.limit (kept_of c.in-Ok-settle_pages.store) e.begins
+    old _ (seen_still c.args.setup.page_size seen old s.seen_is) (fine_still old s.fine) settle
+    (says_still (λ view later told. IsReady view later c.in-Ok-settle_pages.store.pair told) seen _ old _ c.in-Ok.ensures.stays.told e.moments) in
+    record { able = e.able; live = live.0; steady = live.1 }
 
-pub open_seen-requires-clause-fine : goal.open_seen-requires-clause-fine
-open_seen-requires-clause-fine g c =
-    subst (λ (told : Option History). IfSome told (λ told. fault_of (reads told) false ≡ None)) (sym c.in-Ok.ensures.stays.told) (fine_still (g.D.DiskTells.told c.args.disk) c.in-Ok.ensures.seen.fine)
+pub returns-in-Ok-settle_pages-clause-newest : goal.returns-in-Ok-settle_pages-clause-newest
+returns-in-Ok-settle_pages-clause-newest g c =
+    let seen = c.in-Ok.seen in
+    let s = c.in-Ok.ensures.seen in
+    let e = c.in-Ok-settle_pages.ensures in
+    let old = g.D.DiskTells.told c.args.disk in
+    newest_of c.args.setup.page_size c.args.setup.limit seen s.whole s.new (sym c.pages_fault.ensures ∙ c.in-None.is) c.requires.limit (kept_of c.in-Ok-settle_pages.store) e.begins
+    old _ (seen_still c.args.setup.page_size seen old s.seen_is) (fine_still old s.fine)
+    (says_still (λ view later told. IsReady view later c.in-Ok-settle_pages.store.pair told) seen _ old _ c.in-Ok.ensures.stays.told e.moments)
 
-pub returns-in-Ok-open_seen-clause-live : goal.returns-in-Ok-open_seen-clause-live
-returns-in-Ok-open_seen-clause-live g c settle =
-    c.in-Ok-open_seen.ensures.live (subst (λ (told : Option History). IfSome told (λ told. MaySettle (reads told))) (sym c.in-Ok.ensures.stays.told) settle)
+pub returns-in-Ok-settle_pages-clause-moments : goal.returns-in-Ok-settle_pages-clause-moments
+returns-in-Ok-settle_pages-clause-moments g c told is may settle =
+    let seen = c.in-Ok.seen in
+    let s = c.in-Ok.ensures.seen in
+    let e = c.in-Ok-settle_pages.ensures in
+    let old = g.D.DiskTells.told c.args.disk in
+    stands_of c.args.setup.page_size c.args.setup.limit seen s.whole s.new (sym c.pages_fault.ensures ∙ c.in-None.is) c.requires.limit (kept_of c.in-Ok-settle_pages.store) e.begins
+    told old _ is (seen_still c.args.setup.page_size seen old s.seen_is) may settle
+    (says_still (λ view later told. IsReady view later c.in-Ok-settle_pages.store.pair told) seen _ old _ c.in-Ok.ensures.stays.told e.moments)
 
-pub returns-in-Ok-open_seen-clause-newest : goal.returns-in-Ok-open_seen-clause-newest
-returns-in-Ok-open_seen-clause-newest g c =
-    let store = c.in-Ok-open_seen.store in
-    said_still Pages c.args.setup.kind c.requires.kind _ _ c.in-Ok.ensures.stays.told
-    (λ kind old. IfSome old (λ told. MaySettle (reads told) → newest_told (kept_of store) (g.D.DiskTells.told store.disk) ≡ Some (map_begun kind c.args.setup.page_size (reads told))))
-    c.in-Ok-open_seen.ensures.newest
+pub returns-in-Err-settle_pages-clause-moments : goal.returns-in-Err-settle_pages-clause-moments
+returns-in-Err-settle_pages-clause-moments g c told is may settle =
+    let seen = c.in-Ok.seen in
+    let s = c.in-Ok.ensures.seen in
+    let e = c.in-Err-settle_pages.ensures in
+    let old = g.D.DiskTells.told c.args.disk in
+    failed_of c.args.setup.page_size seen s.whole s.new (sym c.pages_fault.ensures ∙ c.in-None.is)
+    told old _ is (seen_still c.args.setup.page_size seen old s.seen_is) may settle
+    (says_still (λ view later told. Unit {0}) seen _ old _ c.in-Ok.ensures.stays.told e.moments)
 
-pub returns-in-Ok-open_seen-clause-runs : goal.returns-in-Ok-open_seen-clause-runs
-returns-in-Ok-open_seen-clause-runs g c =
-    let store = c.in-Ok-open_seen.store in
-    said_still Pages c.args.setup.kind c.requires.kind _ _ c.in-Ok.ensures.stays.told
-    (λ kind old. (first : PageMap) → IfSome old (λ told. MaySettle (reads told) × (first ≡ map_begun kind c.args.setup.page_size (reads told)) × g.M.Means.sound first first)
-    → StandsFrom (g.M.Means.sound first) (g.M.Means.leads first) first (g.D.DiskTells.told store.disk) (kept_of store) no_readers)
-    c.in-Ok-open_seen.ensures.runs
-
-pub returns-in-Ok-open_seen-clause-moments : goal.returns-in-Ok-open_seen-clause-moments
-returns-in-Ok-open_seen-clause-moments g c =
-    let store = c.in-Ok-open_seen.store in
-    said_still Pages c.args.setup.kind c.requires.kind _ _ c.in-Ok.ensures.stays.told
-    (λ kind old. (told : History) → old ≡ Some told → MayOpen (size_opened c.args.setup.page_size (reads told)) told → MaySettle (reads told)
-    → Passes (opening_at told) (LeavesSettling (view_at (size_opened c.args.setup.page_size (reads told)) told) (map_begun kind c.args.setup.page_size (reads told))) (StandsOn (opening_at told) (kept_of store)) old (g.D.DiskTells.told store.disk))
-    c.in-Ok-open_seen.ensures.moments
-
-pub returns-in-Err-open_seen-clause-moments : goal.returns-in-Err-open_seen-clause-moments
-returns-in-Err-open_seen-clause-moments g c =
-    let refused = c.in-Err-open_seen.refused in
-    said_still Pages c.args.setup.kind c.requires.kind _ _ c.in-Ok.ensures.stays.told
-    (λ kind old. (told : History) → old ≡ Some told → MayOpen (size_opened c.args.setup.page_size (reads told)) told → MaySettle (reads told)
-    → Passes (opening_at told) (LeavesSettling (view_at (size_opened c.args.setup.page_size (reads told)) told) (map_begun kind c.args.setup.page_size (reads told))) (λ told. Unit {0}) old (g.D.DiskTells.told refused.1))
-    c.in-Err-open_seen.ensures.moments
+pub returns-in-Ok-settle_pages-clause-runs : goal.returns-in-Ok-settle_pages-clause-runs
+returns-in-Ok-settle_pages-clause-runs g c first is =
+    let seen = c.in-Ok.seen in
+    let s = c.in-Ok.ensures.seen in
+    let e = c.in-Ok-settle_pages.ensures in
+    let old = g.D.DiskTells.told c.args.disk in
+    from_of c.args.setup.page_size c.args.setup.limit seen s.whole s.new (sym c.pages_fault.ensures ∙ c.in-None.is) c.requires.limit (kept_of c.in-Ok-settle_pages.store) e.begins
+    (g.M.Means.sound first) (g.M.Means.leads first) first
+    old _ (seen_still c.args.setup.page_size seen old s.seen_is) (fine_still old s.fine)
+    (says_still (λ view later told. IsReady view later c.in-Ok-settle_pages.store.pair told) seen _ old _ c.in-Ok.ensures.stays.told e.moments)
+    (λ good. g.M.Means.rests first first good) is

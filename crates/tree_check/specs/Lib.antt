@@ -1,7 +1,0 @@
-pub mod Cellwise
-pub mod Chained
-pub mod Checking
-pub mod Freed
-pub mod Met
-pub mod Noded
-pub mod Walking

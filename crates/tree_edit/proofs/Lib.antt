@@ -1,6 +1,0 @@
-pub mod Edits
-pub mod Storing
-pub mod Given
-pub mod Settled
-pub mod Sizes
-pub mod Rooted

@@ -1,4 +1,0 @@
-pub mod Editing
-pub mod Settling
-pub mod Dividing
-pub mod Roots
