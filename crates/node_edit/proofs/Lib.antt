@@ -1,2 +1,8 @@
 pub mod Rows
 pub mod KeyLaws
+mod UpKeys
+mod Weights
+mod Dividing
+mod RowCuts
+mod Crowds
+mod Crowding

@@ -388,3 +388,19 @@ only_first usable true true page node shown less = absurd (omega (arith, less, (
 only_first usable true false page node shown less = absurd (omega (arith, less, (node_fits {first = true} {page = page} shown).fits))
 only_first usable false true page node shown less = (refl, refl)
 only_first usable false false page node shown less = absurd (omega (arith, less, (node_fits {first = false} {page = page} shown).fits))
+
+-- a longer part takes as much or more
+pub part_within : (cells : List NodeCell) (from mid to : ℕ) → from ≤ mid → mid ≤ to → to ≤ length cells → weight_of (part_of cells from mid) ≤ weight_of (part_of cells from to)
+part_within cells from mid to low high within =
+    let cut = ap weight_of (part_cut cells from mid to low high) ∙ weight_join (part_of cells from mid) (part_of cells mid to) in
+    omega (arith, cut)
+
+-- a page's node that takes cells, made of its parts
+pub whole_like : (usable : ℕ) (first : Bool) (page : List ℕ) (node : Node) (at : ℕ) (news : List NodeCell) {kind told : Kind} {right : ℕ} → kind ≡ node.kind → told ≡ node.kind
+    → right ≡ right_in first told page → node_of usable first page ≡ Some node
+    → inner_node kind (cells_with node.cells at news) right ≡ node_taking node at news
+whole_like usable first page node at news {kind} {told} {right} same is told_right shown =
+    let s = node_shows usable first page node shown in
+    let right_is : (if is_leaf kind then 0 else right) ≡ node.right =
+    ap₂ (λ k n. if is_leaf k then 0 else n) same (told_right ∙ ap (λ k. right_in first k page) is) ∙ same_right first node.kind page ∙ sym s.right_is in
+    λ j. record { kind = same j; cells = cells_with node.cells at news; right = right_is j }

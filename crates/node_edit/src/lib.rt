@@ -5,14 +5,19 @@
 //! the parts of a divided page takes memory.
 #![tactic(auto)]
 
+mod between;
 mod copy;
+mod crowd;
+mod division;
 mod head;
 mod join;
 mod keys;
+mod leaves;
 mod put;
 mod run;
 
 pub use copy::copy_node;
+pub use division::{Divided, divide};
 pub use join::take_over;
 pub use keys::cell_above;
 pub use put::{put_cells, start_inner};

@@ -111,6 +111,18 @@ pub(crate) fn reach(run: Run<'_>, from: usize, end: usize, limit: usize) -> usiz
     end
 }
 
+/// How many bytes of a page the first so many cells take, with their pointers.
+pub(crate) fn weigh(run: Run<'_>, end: usize) -> usize
+    requires run { (cells : List NodeCell) × IsRun run cells × (end ≤ length cells) × (weight_of cells ≤ 262144) }
+    ensures { (cells : List NodeCell) → IsRun run.entry cells → end ≤ length cells → result ≡ weight_of (part_of cells 0 end) }
+{
+    let mut all = 0;
+    for i in 0..end {
+        all += weight(run, i);
+    }
+    all
+}
+
 /// No cells of a page.
 const NO_CELLS: Lent<'static> = Lent {
     bytes: &[],
