@@ -5,7 +5,7 @@ use Rattle.node_spec.specs.declared.kinds.Kind.TheVariants.{TableInner}
 use Rattle.node_spec.specs.Kinds.{is_leaf, is_table, pointers_at}
 use Rattle.node_spec.specs.Cells.{NodeCell, IsOneCell, cell_in, body_size, left_size}
 use Rattle.node_spec.specs.Nodes.{Node, node_of, free_of}
-use Rattle.edit_spec.specs.Nodes.{SaysSame, Divides, ByLeafOfTable, node_taking}
+use Rattle.edit_spec.specs.Nodes.{SaysSame, Divides, ByLeafOfTable}
 use Rattle.node_edit.specs.declared.crowd.Crowd.{Crowd}
 use Rattle.node_edit.specs.declared.leaves.Cuts.{Cuts}
 use Rattle.node_edit.specs.declared.leaves.Cuts.TheVariants.{One, Both}
@@ -116,7 +116,3 @@ pub record IsUpKey (kind : Kind) (usable : ℕ) (cell : NodeCell) (key : List �
 -- what stands in a text behind the left child, without what fills it up
 abbrev pub body_in : Kind → (usable : ℕ) → List ℕ → List ℕ
 body_in kind usable text = take (body_size kind usable (drop (left_size kind) text)) (drop (left_size kind) text)
-
--- a node has its left neighbour's cells before its own, and those between
-abbrev pub joined_node : (node other : Node) → List NodeCell → Node
-joined_node node other between = node_taking other 0 (node.cells ++ between)

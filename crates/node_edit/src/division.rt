@@ -1,12 +1,12 @@
 // Pages divided that have no room for some cells.
-ghost use Rattle.std.specs.Prelude.{◌≡◌, ℕ, ◌+◌, ◌*◌, ◌<◌, ◌≤◌, ◌&&◌, Some, true, false, List, length, All, IfOk, OnErr};
+ghost use Rattle.std.specs.Prelude.{◌≡◌, ◌+◌, ◌*◌, ◌<◌, ◌≤◌, ◌&&◌, Some, true, false, List, length, IfOk, OnErr};
 ghost use Rattle.node_spec.specs.Kinds.{pointers_at, is_leaf, is_table};
-ghost use Rattle.node_spec.specs.Cells.{NodeCell, IsOneCell};
-ghost use Rattle.node_spec.specs.Nodes.{Node, node_of, free_of};
+ghost use Rattle.node_spec.specs.Cells.{NodeCell};
+ghost use Rattle.node_spec.specs.Nodes.{Node, node_of};
 ghost use Rattle.page_edit.specs.Forms.{KeepsOutside};
 ghost use Rattle.edit_spec.specs.Nodes.{node_taking};
 ghost use Rattle.node_edit.specs.Runs.{spelled_by, weight_of};
-ghost use Rattle.node_edit.specs.Dividing.{IsCrowded, IsCrowd, ShowTwo, ShowParts, joined_node, CutsBetween};
+ghost use Rattle.node_edit.specs.Dividing.{IsCrowded, IsCrowd, ShowParts};
 
 use crate::between::divide_between;
 use crate::crowd::{Crowd, copy_usable, crowd_of};
