@@ -69,7 +69,7 @@ least_most true usable =
 least_most false usable =
     let part : (usable - 12) * 32 / 255 ≤ (usable - 12) * 64 / 255 = omega arith in omega (arith, part)
 
-local_less : (table : Bool) (usable payload : ℕ) → spills table usable payload ≡ true → local_size table usable payload < payload
+pub local_less : (table : Bool) (usable payload : ℕ) → spills table usable payload ≡ true → local_size table usable payload < payload
 unfolding local_size spills
 local_less table usable payload large =
     let less : most_local table usable < payload = grind (arith, common_steps, nat_tests) in
@@ -82,7 +82,7 @@ local_less table usable payload large =
         let most : fitted_local usable payload ≤ most_local table usable = grind (arith, common_steps, nat_tests) in rw (large, is) (omega (arith, most, less))
     by_fitted false is less least = rw (large, is) (omega (arith, least, less))
 
-take_short : (n : ℕ) (xs : List ℕ) → length (take n xs) ≤ n
+pub take_short : (n : ℕ) (xs : List ℕ) → length (take n xs) ≤ n
 take_short n xs = omega (arith, length-take n xs)
 
 overflow_by : (table : Bool) (usable payload : ℕ) (text : List ℕ) (start number : ℕ)

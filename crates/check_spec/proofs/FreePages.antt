@@ -42,7 +42,7 @@ trunks_say db (suc n) before after named fits (mid, first, behind, here, more, i
     )
 
 -- a page without a fault is a trunk, and names the next one or none
-trunk_is : (usable last : ℕ) (page : List ℕ) → trunk_fault usable last page ≡ None
+pub trunk_is : (usable last : ℕ) (page : List ℕ) → trunk_fault usable last page ≡ None
     → ((u32_at page 0 ≡ 0) ⊎ IsNumberOf last (u32_at page 0)) × IsTrunk usable last (trunk_in page)
 unfolding trunk_fault
 trunk_is usable last page none =

@@ -1,5 +1,6 @@
-// What a check answers.
-use thiserror::Error;
+// What a check answers. The texts are told to users as they stand.
+use std::error::Error;
+use std::fmt;
 
 /// What a sound database has.
 #[derive(Clone, Copy, Debug, PartialEq, Eq)]
@@ -13,7 +14,7 @@ pub struct Count {
 }
 
 /// Why a database is refused: the first fault on the walk.
-#[derive(Clone, Copy, Debug, PartialEq, Eq, Error)]
+#[derive(Clone, Copy, Debug, PartialEq, Eq)]
 pub enum CheckFault {
     /// A field of a page breaks what is asked of it where the page stands. `at` is its offset in bytes.
     ///
@@ -21,24 +22,38 @@ pub enum CheckFault {
     /// freelist has other pages than the header counts. On a trunk: 0, 4 or 8 + 4i for the next trunk, the count of leaves and leaf i. On a page of
     /// a tree: what reading it says; or the number of a child or a chain; or the page's header, where its kind, its depth or a missing cell is
     /// at fault. On a page of a chain: 0, for the next number.
-    #[error("page {page} at {at}")]
     Page { page: u32, at: usize },
     /// The row of page 1's tree with this rowid is no schema row, or names a root out of range.
-    #[error("schema row {rowid}")]
     Schema { rowid: i64 },
     /// The rowid of a cell isn't above the one before it, or breaks the bound of an interior cell. Cells are counted from 0.
-    #[error("order page {page} cell {cell}")]
     Order { page: u32, cell: usize },
     /// A page is met again.
-    #[error("twice page {page}")]
     Twice { page: u32 },
     /// The least page that is in no place.
-    #[error("lost page {page}")]
     Lost { page: u32 },
     /// The disk failed and counted it.
-    #[error("disk")]
     Disk,
     /// Want of memory.
-    #[error("out of memory")]
     Memory,
 }
+
+impl fmt::Display for CheckFault {
+    ghost use Rattle.std.specs.Prelude.{Some};
+    ghost use Rattle.check_spec.specs.Texts.{check_text};
+
+    ghost output = { λ fault. Some (check_text fault) };
+
+    fn fmt<W: fmt::Write>(&self, f: &mut fmt::Formatter<W>) -> fmt::Result {
+        match *self {
+            CheckFault::Page { page, at } => write!(f, "page {page} at {at}"),
+            CheckFault::Schema { rowid } => write!(f, "schema row {rowid}"),
+            CheckFault::Order { page, cell } => write!(f, "order page {page} cell {cell}"),
+            CheckFault::Twice { page } => write!(f, "twice page {page}"),
+            CheckFault::Lost { page } => write!(f, "lost page {page}"),
+            CheckFault::Disk => write!(f, "disk failed"),
+            CheckFault::Memory => write!(f, "out of memory"),
+        }
+    }
+}
+
+impl Error for CheckFault {}

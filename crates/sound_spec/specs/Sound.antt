@@ -48,7 +48,9 @@ pub record IsSoundTrees (usable last : ℕ) (shown : Shown) (roots used : List �
   pub once : (page : ℕ) → times used page ≤ 1
 
 -- Page 1's first bytes are a database header, whatever the database's size, and it counts so many pages where the file has as many, of this size.
+-- There is one at least.
 pub record CountsPages (page_size last : ℕ) (first : List ℕ) : Type 0 where
+  pub some : 1 ≤ last
   pub header : IsHeader first
   pub count : pages_in first (last * page_size) ≡ last
 

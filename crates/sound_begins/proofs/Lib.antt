@@ -1,0 +1,3 @@
+pub mod NewTables
+pub mod Begins
+pub mod Counts
