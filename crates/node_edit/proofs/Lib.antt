@@ -1,6 +1,8 @@
 pub mod Rows
 pub mod KeyLaws
 mod UpKeys
+mod PayloadLaws
+mod DownCells
 mod Weights
 mod Dividing
 mod RowCuts

@@ -60,7 +60,7 @@ leaf_body TableInner usable text leaf one long = absurd (cc)
 leaf_body IndexLeaf usable text leaf one long = sym (take_all (body_size IndexLeaf usable text) text (omega (arith, one_long IndexLeaf usable text one long)))
 leaf_body TableLeaf usable text leaf one long = sym (take_all (body_size TableLeaf usable text) text (omega (arith, one_long TableLeaf usable text one long)))
 
-index_leaf : (kind : Kind) → is_leaf kind ≡ true → is_leaf kind && is_table kind ≡ false → kind ≡ IndexLeaf
+pub index_leaf : (kind : Kind) → is_leaf kind ≡ true → is_leaf kind && is_table kind ≡ false → kind ≡ IndexLeaf
 index_leaf IndexInner leaf other = absurd (cc)
 index_leaf TableInner leaf other = absurd (cc)
 index_leaf IndexLeaf leaf other = refl
@@ -87,7 +87,7 @@ short_body kind usable text leaf other short one =
     )
 
 -- numbers and parts of a text from a place on, and in a front
-number_behind : (xs : List ℕ) (a m : ℕ) → u32_at xs (a + m) ≡ u32_at (drop a xs) m
+pub number_behind : (xs : List ℕ) (a m : ℕ) → u32_at xs (a + m) ≡ u32_at (drop a xs) m
 unfolding u32_at
 number_behind xs a m =
     let at : (k : ℕ) → get_or (drop a xs) (m + k) 0 ≡ get_or xs (a + m + k) 0 = λ k. get_or-drop a xs (m + k) 0 ∙ ap (λ n. get_or xs n 0) (omega arith) in
@@ -98,7 +98,7 @@ unfolding u32_at
 number_front xs n m room =
     rw (get_or-take n xs m 0 (omega arith), get_or-take n xs (m + 1) 0 (omega arith), get_or-take n xs (m + 2) 0 (omega arith), get_or-take n xs (m + 3) 0 (omega arith)) refl
 
-range_behind : (xs : List ℕ) (a k l : ℕ) → slice_range xs (a + k) (a + k + l) ≡ take l (drop k (drop a xs))
+pub range_behind : (xs : List ℕ) (a k l : ℕ) → slice_range xs (a + k) (a + k + l) ≡ take l (drop k (drop a xs))
 range_behind xs a k l =
     let n : a + k + l - (a + k) ≡ l = omega arith in
     rw n (ap (take l) (sym (drop-drop k a xs)))
@@ -113,7 +113,7 @@ stored_parts : (table : Bool) (usable payload : ℕ) → (local_size table usabl
 unfolding stored_size
 stored_parts table usable payload = (omega arith, λ large. rw large (omega arith))
 
-overflow_same : (b : Bool) (x y : ℕ) → (b ≡ true → x ≡ y) → (if b then x else 0) ≡ (if b then y else 0)
+pub overflow_same : (b : Bool) (x y : ℕ) → (b ≡ true → x ≡ y) → (if b then x else 0) ≡ (if b then y else 0)
 overflow_same true x y same = same refl
 overflow_same false x y same = refl
 

@@ -1,5 +1,5 @@
 -- How pages that have no room for some cells are divided, and the keys between their parts.
-use Rattle.std.specs.Prelude.{◌≡◌, ℕ, ◌+◌, ◌<◌, ◌≤◌, ◌&&◌, Bool, true, false, List, [], ◌++◌, length, take, drop, All, Some}
+use Rattle.std.specs.Prelude.{◌≡◌, ℕ, ◌+◌, ◌<◌, ◌≤◌, ◌&&◌, Bool, true, false, List, [], length, take, drop, All, Some}
 use Rattle.node_spec.specs.declared.kinds.Kind.{Kind}
 use Rattle.node_spec.specs.declared.kinds.Kind.TheVariants.{TableInner}
 use Rattle.node_spec.specs.Kinds.{is_leaf, is_table, pointers_at}
@@ -41,6 +41,11 @@ pub record ShowThree (usable : ℕ) (first : Bool) (whole : Node) (low high : Li
 abbrev pub ShowParts : (usable : ℕ) (first : Bool) (whole : Node) (left middle bytes : List ℕ) → Divided → Type 0
 ShowParts usable first whole left middle bytes (Two key) = ShowTwo usable first whole key left bytes
 ShowParts usable first whole left middle bytes (Three low high) = ShowThree usable first whole low high left middle bytes
+
+-- there are two parts
+abbrev pub AreTwo : Divided → Type 0
+AreTwo (Two key) = Unit {0}
+AreTwo (Three low high) = ⊥
 
 -- A page that has no room for cells at a place. A leaf of a table is asked to take one cell, and isn't page 1; another page is asked to take one or two.
 pub record IsCrowded (usable : ℕ) (first : Bool) (node : Node) (at : ℕ) (news : List (List ℕ)) : Type 0 where

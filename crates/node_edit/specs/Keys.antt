@@ -1,9 +1,11 @@
 -- Keys: what stands in the cells of interior pages behind the left child.
-use Rattle.std.specs.Prelude.{◌≡◌, ℕ, ◌+◌, List, length, drop}
+use Rattle.std.specs.Prelude.{◌≡◌, ℕ, ◌+◌, ◌≤◌, if◌then◌else◌, List, length, drop}
 use Rattle.page_spec.specs.Bytes.{u32_at}
 use Rattle.node_spec.specs.declared.kinds.Kind.{Kind}
 use Rattle.node_spec.specs.declared.kinds.Kind.TheVariants.{IndexInner, TableInner, IndexLeaf, TableLeaf}
-use Rattle.node_spec.specs.Cells.{IsOneCell, body_size, cell_in}
+use Rattle.node_spec.specs.Kinds.{is_leaf}
+use Rattle.node_spec.specs.Cells.{NodeCell, IsOneCell, body_size, cell_in}
+use Rattle.edit_spec.specs.Nodes.{SaysSame}
 
 -- the kind of the pages above those of a kind
 abbrev pub kind_above : Kind → Kind
@@ -26,3 +28,10 @@ pub record LeadsTo (page : ℕ) (key text : List ℕ) : Type 0 where
 pub record IsCellAbove (kind : Kind) (usable page : ℕ) (text : List ℕ) : Type 0 where
   pub one : IsOneCell kind usable text
   pub left : (cell_in kind usable text).left ≡ page
+
+-- A text is a cell of the page above that came down to a page of a kind: it says the same, takes no more bytes, and leads to this child, on a leaf nowhere.
+pub record ComesDown (kind : Kind) (usable : ℕ) (cell : NodeCell) (right : ℕ) (text : List ℕ) : Type 0 where
+  pub one : IsOneCell kind usable text
+  pub says : SaysSame cell (cell_in kind usable text)
+  pub leads : (cell_in kind usable text).left ≡ (if is_leaf kind then 0 else right)
+  pub small : (cell_in kind usable text).size ≤ cell.size

@@ -6,7 +6,7 @@ ghost use Rattle.node_spec.specs.Nodes.{Node, node_of};
 ghost use Rattle.page_edit.specs.Forms.{KeepsOutside};
 ghost use Rattle.edit_spec.specs.Nodes.{node_taking};
 ghost use Rattle.node_edit.specs.Runs.{spelled_by, weight_of};
-ghost use Rattle.node_edit.specs.Dividing.{IsCrowded, IsCrowd, ShowParts};
+ghost use Rattle.node_edit.specs.Dividing.{IsCrowded, IsCrowd, ShowParts, AreTwo};
 
 use crate::between::divide_between;
 use crate::crowd::{Crowd, copy_usable, crowd_of};
@@ -67,6 +67,7 @@ pub fn divide(
     requires long { (u ≤ length left.old) × (u ≤ length middle.old) × (u ≤ length spare.old) }
     ensures parts { IfOk result (λ divided. (node : Node) → node_of u first bytes.old ≡ Some node
         → ShowParts u first (node_taking node at (spelled_by node.kind u news.now)) left.new middle.new bytes.new divided) }
+    ensures two { IfOk result (λ divided. (node : Node) → node_of u first bytes.old ≡ Some node → is_leaf node.kind && is_table node.kind ≡ false → AreTwo divided) }
     ensures same { OnErr result (bytes.new ≡ bytes.old) }
     ensures lengths { (length left.new ≡ length left.old) × (length middle.new ≡ length middle.old) × (length spare.new ≡ length spare.old) }
     ensures rest { KeepsOutside u first bytes.old bytes.new }

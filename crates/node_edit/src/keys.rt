@@ -9,7 +9,7 @@ use std::alloc::{AllocError, Global};
 
 // A number in four bytes, the highest first, and bytes behind it.
 #[tactic(auto, unfolding(page_spec::specs::Bytes::u32_at))]
-fn numbered(alloc: Global, page: u32, key: &[u8]) -> Result<Vec<u8>, AllocError>
+pub(crate) fn numbered(alloc: Global, page: u32, key: &[u8]) -> Result<Vec<u8>, AllocError>
     ensures { IfOk result (λ text. LeadsTo page key.now text.items) }
 {
     let mut text = Vec::from_slice(alloc, page.to_be_bytes().as_slice())?;

@@ -18,3 +18,4 @@ pub use kinds::{flag_of, header_at, header_size, is_leaf, is_table, kind_of, poi
 pub use node_spec::Kind;
 pub use page::{Page, PageFault};
 pub use read::read_page;
+pub use sizes::{local_size, spills};

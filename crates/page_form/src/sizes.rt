@@ -32,7 +32,7 @@ fn least_local(u: usize) -> usize
 
 /// Whether a payload of so many bytes is too large to be stored whole.
 #[tactic(auto, unfolding(node_spec::specs::Cells::spills))]
-pub(crate) fn spills(table: bool, u: usize, payload: u64) -> bool
+pub fn spills(table: bool, u: usize, payload: u64) -> bool
     requires least { 480 ≤ u }
     requires most { u ≤ 65536 }
     ensures { result ≡ spills table u payload }
@@ -42,7 +42,7 @@ pub(crate) fn spills(table: bool, u: usize, payload: u64) -> bool
 
 /// How many bytes of a payload its cell stores.
 #[tactic(auto, unfolding(node_spec::specs::Cells::local_size, node_spec::specs::Cells::spills, node_spec::specs::Cells::fitted_local))]
-pub(crate) fn local_size(table: bool, u: usize, payload: u64) -> usize
+pub fn local_size(table: bool, u: usize, payload: u64) -> usize
     requires least { 480 ≤ u }
     requires most { u ≤ 65536 }
     ensures value { result ≡ local_size table u payload }

@@ -1,4 +1,5 @@
 use Rattle.std.proofs.Common.{◌≡◌, ◌&&◌, true, false, length, sym, ap, subst, ◌∙◌, inl, inr, arith}
+use Rattle.std.proofs.lemmas.Bool.{true≢false}
 use Rattle.node_spec.specs.declared.kinds.Kind.{Kind}
 use Rattle.node_spec.specs.Kinds.{is_leaf, is_table}
 use Rattle.node_spec.specs.Nodes.{Node}
@@ -120,3 +121,14 @@ returns-clause-parts c =
     (subst (λ f. ShowTwo c.args.u f (whole_of crowd all) c.in_ok-key.key c.divide_between.new.left c.divide_between.new.bytes) made.page
     (subst (λ n. ShowTwo n crowd.first (whole_of crowd all) c.in_ok-key.key c.divide_between.new.left c.divide_between.new.bytes) made.usable
     (c.in_ok-key.ensures.parts all (cuts_between c.args.u c.args.first c.args.at c.args.bytes.now c.args.news.now r.0 r.1 r.2 crowd c.limit_of-limit.result made.usable made.page kind is taken other)))))
+
+pub returns-then-is_table-clause-two : goal.returns-then-is_table-clause-two
+returns-then-is_table-clause-two c =
+    let r = c.requires.crowded in
+    let shown = c.copy_usable.ensures.same c.args.first ∙ r.1 in
+    let crowd = c.crowd_of-crowd.result in
+    let kind = c.crowd_of-crowd.ensures.kind r.0 shown in
+    let rows : is_leaf r.0.kind && is_table r.0.kind ≡ true = ap (λ (k : Kind). is_leaf k && is_table k) (sym kind)
+    ∙ both_true (is_leaf crowd.run.kind) (is_table crowd.run.kind) (sym c.is_leaf.ensures ∙ c.if-is_leaf.true) (sym c.is_table.ensures ∙ c.if-is_table.true) in
+    ok_on _ _ c.divide_rows.result (λ divided says node also other.
+    absurd (true≢false (sym rows ∙ (ap (λ (n : Node). is_leaf n.kind && is_table n.kind) (node_once r.0 node _ r.1 also) ∙ other)))) c.divide_rows.ensures.parts
