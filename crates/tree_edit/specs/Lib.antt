@@ -1,0 +1,4 @@
+pub mod Editing
+pub mod Settling
+pub mod Roots
+pub mod Joining
