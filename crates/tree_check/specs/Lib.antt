@@ -1,0 +1,10 @@
+pub mod Begun
+pub mod Cellwise
+pub mod Chained
+pub mod Checking
+pub mod Freed
+pub mod Met
+pub mod Noded
+pub mod Rows
+pub mod Visiting
+pub mod Walking
