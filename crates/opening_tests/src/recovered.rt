@@ -100,7 +100,11 @@ fn reads_page(disk: &mut MemDisk, seen: &Seen, page: u32, buf: &mut [u8]) -> boo
     if seen.is_new() || page == 0 || page > seen.pages() || buf.len() != seen.page_size() as usize {
         return false;
     }
-    let mut pages = Recovered { seen, disk };
+    let mut pages = Recovered {
+        seen,
+        disk,
+        failed: false,
+    };
     pages.fetch(page, buf).is_ok()
 }
 

@@ -6,4 +6,5 @@ pub mod NewPages
 pub mod Founding
 pub mod Ready
 pub mod Texts
+pub mod Remembered
 pub mod AsLooked

@@ -9,13 +9,16 @@ use page_face::{FetchFault, Pages, PagesTells};
 /// The pages of the recovered map, before anything is written. It is made in place from its fields, over the disk that was looked at, of a database
 /// that is there.
 ///
-/// A page is fetched from the last frame of it in the newer log, else in the older one, else from the database. Nothing is kept of what was read.
+/// A page is fetched from the last frame of it in the newer log, else in the older one, else from the database. Nothing is kept of what was read, only
+/// whether a read failed.
 #[derive(Drop)]
 pub struct Recovered<'a, 'b, D> {
     /// What was seen of the disk.
     pub seen: &'a Seen,
     /// The disk, as it was looked at.
     pub disk: &'b mut D,
+    /// Whether a read of it has failed. It begins as `false`. As long as it isn't set the count of faults is as it was.
+    pub failed: bool,
 }
 
 impl<'a, 'b, D: Disk> PagesTells for Recovered<'a, 'b, D> {
@@ -48,11 +51,11 @@ impl<'a, 'b, D: Disk> PagesTells for Recovered<'a, 'b, D> {
 
     ghost loans = { λ pages. pages.disk.ghost_name ∷ D.loans pages.disk.now };
 
-    ghost follows = { λ old new. IsOnlyRead D.DiskTells old.seen.now new.seen.now old.disk.now new.disk.now };
+    ghost follows = { λ old new. IsOnlyRead D.DiskTells old.seen.now new.seen.now old.failed new.failed old.disk.now new.disk.now };
 
-    ghost follows_itself = { λ pages. only_read_itself D.DiskTells pages.seen.now pages.disk.now };
+    ghost follows_itself = { λ pages. only_read_itself D.DiskTells pages.seen.now pages.failed pages.disk.now };
 
-    ghost follows_on = { λ first second third one two. only_read_on D.DiskTells first.seen.now second.seen.now third.seen.now first.disk.now second.disk.now third.disk.now one two };
+    ghost follows_on = { λ first second third one two. only_read_on D.DiskTells first.seen.now second.seen.now third.seen.now first.failed second.failed third.failed first.disk.now second.disk.now third.disk.now one two };
 }
 
 impl<'a, 'b, D: Disk> Pages for Recovered<'a, 'b, D> {
@@ -72,7 +75,10 @@ impl<'a, 'b, D: Disk> Pages for Recovered<'a, 'b, D> {
         let place = self.seen.place_of(page);
         match read_place(self.disk, place, page, buf) {
             Ok(()) => Ok(()),
-            Err(Failed) => Err(FetchFault::Disk),
+            Err(Failed) => {
+                self.failed = true;
+                Err(FetchFault::Disk)
+            }
         }
     }
 }

@@ -1,21 +1,19 @@
 -- What a crash leaves of an opening is opened again: it recovers to the map before, or to the one with which the store begins.
-use Rattle.std.proofs.Common.{◌≡◌, ◌≢◌, ◌⊎◌, inl, inr, ℕ, ◌+◌, ◌*◌, ◌≤◌, ◌==◌, ◌&&◌, ◌||◌, not, max, Bool, true, false, if◌then◌else◌, List, [], ◌∷◌, length, Option, Some, None, refl, sym, ◌∙◌, ap, subst, arith}
+use Rattle.std.proofs.Common.{◌≡◌, ◌≢◌, inl, inr, ℕ, ◌*◌, ◌≤◌, ◌==◌, ◌&&◌, ◌||◌, not, max, Bool, true, false, if◌then◌else◌, List, [], ◌∷◌, length, Option, Some, None, refl, sym, ◌∙◌, ap, subst, arith}
 use Rattle.std.specs.Prelude.{IfSome, is_none, nat_lt}
 use Rattle.std.proofs.lemmas.Bool.{eqb-true}
-use Rattle.disk_face.specs.declared.disk.File.{File}
 use Rattle.disk_face.specs.declared.disk.File.TheVariants.{Main, Log1, Log2}
 use Rattle.disk_face.specs.Files.{Files}
 use Rattle.disk_face.specs.Steps.{History, reads}
 use Rattle.page_spec.specs.Bytes.{u16_at, u32_at}
-use Rattle.page_spec.specs.Header.{fields_of, page_size_in, pages_in, is_page_size, spelled_page_size}
+use Rattle.page_spec.specs.Header.{fields_of, pages_in, is_page_size, spelled_page_size}
 use Rattle.page_spec.specs.PageMap.{PageMap, page_at}
 use Rattle.log_spec.specs.LogHeader.{log_fields, last_generation, is_signed, foreign_at}
 use Rattle.log_spec.specs.Accept.{Frame, last_size}
-use Rattle.log_spec.specs.Frames.{accepted_frames, is_ours}
+use Rattle.log_spec.specs.Frames.{is_ours}
 use Rattle.log_spec.proofs.AcceptedIs.{accepted_is}
 use Rattle.db_header.specs.Header.{refusal}
 use Rattle.wal_frames.specs.Front.{front_of, signed_front}
-use Rattle.wal_frames.specs.declared.header.Front.{Front}
 use Rattle.wal_frames.specs.declared.header.Front.TheVariants.{Nothing}
 use Rattle.crash_spec.specs.Known.{IsWithoutChance}
 use Rattle.crash_spec.specs.Logs.{NoneForeign, HaveSize}
@@ -29,10 +27,9 @@ use Rattle.opening_spec.proofs.Beginning.{map_is_recovered}
 use Rattle.recover.specs.NewPages.{new_pages, migrated}
 use Rattle.recover.specs.Seeing.{one_in, two_in, is_new_in, is_ours_in, is_some_list, first_in, size_in, map_found, fault_of, header_fault, wal_fault, room_fault, missing_fault, size_fault, is_held, first_missing, of_header, of_missing, generation_opened, is_log_mode, is_front_ours}
 use Rattle.recover.specs.declared.setup.StoreKind.TheVariants.{Pages}
-use Rattle.recover.specs.declared.seen.LookFault.{LookFault}
 use Rattle.recover.proofs.NewPages.{new_names, new_length}
 use Rattle.recover.proofs.SeenFiles.{legal_size}
-use Rattle.store.specs.Opening.{AreOpened, fault_by, named_in, byte_in, is_mixed, is_mixed_by, map_opened, size_opened}
+use Rattle.store.specs.Opening.{AreOpened, fault_by, named_in, byte_in, is_mixed_by, map_opened, size_opened}
 use Rattle.reopening.specs.Reopening.{IsReadableStore, IsStoreMap}
 use Rattle.reopening.proofs.Fine.{none_of, none_sized}
 use Rattle.reopening.proofs.FirstBytes.{le_true}

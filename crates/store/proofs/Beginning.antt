@@ -1,13 +1,13 @@
 -- A store as it begins is whole, and stands on its disk.
-use Rattle.std.proofs.Common.{◌≡◌, inl, inr, ℕ, zero, suc, ◌+◌, ◌*◌, ◌%◌, ◌^◌, ◌≤◌, ◌<◌, true, List, [], ◌∷◌, length, take, drop, Option, Some, None, refl, sym, ◌∙◌, ap, subst, arith, length-drop}
-use Rattle.std.specs.Prelude.{All, Contains, nat_eq, IfSome, slice_index_or}
+use Rattle.std.proofs.Common.{◌≡◌, inl, inr, ℕ, zero, suc, ◌+◌, ◌-◌, ◌*◌, ◌%◌, ◌≤◌, ◌<◌, true, List, [], ◌∷◌, length, take, drop, Option, Some, None, refl, sym, ◌∙◌, ap, subst, arith, length-drop}
+use Rattle.std.specs.Prelude.{All, Contains, IfSome, slice_index_or}
 use Rattle.std.proofs.lemmas.Bool.Decides.{nat_tests}
 use Rattle.std.proofs.lemmas.List.{length-take}
 use Rattle.std.proofs.lemmas.List.Elements.{All-nil, All-head, All-tail}
 use Rattle.disk_face.specs.declared.disk.File.TheVariants.{Log1, Log2}
 use Rattle.disk_face.specs.Steps.{History, reads}
-use Rattle.page_spec.specs.Header.{is_page_size}
-use Rattle.page_spec.specs.PageMap.{PageMap, page_at, page_sizes}
+use Rattle.page_spec.specs.Header.{is_page_size, database_limit}
+use Rattle.page_spec.specs.PageMap.{PageMap, page_at}
 use Rattle.log_spec.specs.LogHeader.{is_generation, last_generation}
 use Rattle.crash_spec.specs.Opening.{Since, rebased}
 use Rattle.crash_spec.specs.Known.{known_pieces}
@@ -26,7 +26,6 @@ use Rattle.log_pair.specs.Pair.{PairView, IsPair, new_pair}
 use Rattle.opening_spec.specs.Found.{OpeningView}
 use Rattle.recover.specs.Ready.{IsReady, IsNewPair}
 use Rattle.recover.proofs.Begun.{ready_holds}
-use Rattle.recover.proofs.NewPages.{one_of}
 use Rattle.recover.proofs.SeenFiles.{legal_size, is_legal}
 use Rattle.store_spec.specs.Store.{StoreData, newest_told, since_of}
 use Rattle.store_spec.specs.Pins.{PinHolds, mark_at}
@@ -36,14 +35,14 @@ use Rattle.store_spec.proofs.NamedLaws.{named_bare}
 use Rattle.store_spec.proofs.Named.{named_none}
 use Rattle.store_spec.proofs.OwnFronts.{names_bare}
 use Rattle.store_spec.proofs.Reading.{on_has, page_of_overlaid}
-use Rattle.store.specs.Opening.{IsBeginning, page_count, no_frames, first_state, no_readers}
+use Rattle.store.specs.Opening.{BeginsWith, no_frames, first_state, no_readers}
 
 -- a store as it begins
-abbrev pub first_kept : (bytes used most : ℕ) → (one two : LogHeader) → StoreData
-first_kept bytes used most one two = record {
+abbrev pub first_kept : (count bytes used most : ℕ) → (one two : LogHeader) → StoreData
+first_kept count bytes used most one two = record {
   page_size = bytes;
   usable = used;
-  size = page_count;
+  size = count;
   limit = most;
   pair = new_pair 1 one two;
   index = no_frames;
@@ -52,8 +51,8 @@ first_kept bytes used most one two = record {
   stop = None;
 }
 
-pub kept_is : (bytes used most : ℕ) (kept : StoreData) → (b : IsBeginning bytes used most kept) → kept ≡ first_kept bytes used most b.pair.one b.pair.two
-kept_is bytes used most kept b = λ i. record {
+pub kept_is : (count bytes used most : ℕ) (kept : StoreData) → (b : BeginsWith count bytes used most kept) → kept ≡ first_kept count bytes used most b.pair.one b.pair.two
+kept_is count bytes used most kept b = λ i. record {
   page_size = b.page_size i;
   usable = b.usable i;
   size = b.size i;
@@ -70,18 +69,17 @@ pub generation_of_one : (g : ℕ) → is_generation 1 g ≡ true → (1 ≤ g) �
 unfolding is_generation
 generation_of_one g is = (grind (arith, nat_tests), grind (arith, nat_tests), grind (arith, nat_tests))
 
--- What an opening gives a store: a legal page size, of which enough is in use, a limit, and headers that are legal.
-pub record MayBegin (bytes used most : ℕ) : Type 0 where
+-- What an opening gives a store: some pages, no more than a database has, a legal page size, of which enough is in use, and a limit.
+pub record MayBegin (count bytes used most : ℕ) : Type 0 where
+  pub some : 1 ≤ count
+  pub fits : count * bytes ≤ database_limit
   pub legal : is_page_size bytes ≡ true
   pub usable : (480 ≤ used) × (used ≤ bytes)
   pub limit : 1 ≤ most
 
-module _ (bytes used most : ℕ) (may : MayBegin bytes used most) (pair : PairView) (new : IsNewPair bytes pair) where
+module _ (count bytes used most : ℕ) (may : MayBegin count bytes used most) (pair : PairView) (new : IsNewPair bytes pair) where
   abbrev kept : StoreData
-  kept = first_kept bytes used most new.one new.two
-
-  fits : page_count * bytes ≤ 2 ^ 30
-  fits = omega (arith, (legal_size bytes may.legal).1)
+  kept = first_kept count bytes used most new.one new.two
 
   is_pair : IsPair kept.pair
   is_pair = record {
@@ -95,8 +93,8 @@ module _ (bytes used most : ℕ) (may : MayBegin bytes used most) (pair : PairVi
   none_first : All (λ (commit : Commit). Contains commit.wrote 1) []
   none_first = All-nil (λ (commit : Commit). Contains commit.wrote 1)
 
-  no_pages : All (λ page. (1 ≤ page) × (page ≤ page_count)) []
-  no_pages = All-nil (λ (page : ℕ). (1 ≤ page) × (page ≤ page_count))
+  no_pages : All (λ page. (1 ≤ page) × (page ≤ count)) []
+  no_pages = All-nil (λ (page : ℕ). (1 ≤ page) × (page ≤ count))
 
   pub first_whole : IsWholeStore kept
   first_whole =
@@ -104,8 +102,8 @@ module _ (bytes used most : ℕ) (may : MayBegin bytes used most) (pair : PairVi
       record {
         legal = is_legal bytes may.legal;
         usable = may.usable;
-        some = omega arith;
-        fits = fits;
+        some = may.some;
+        fits = may.fits;
         limit = may.limit;
         pair = is_pair;
         page_size = new.size_one;
@@ -190,32 +188,39 @@ module _ (bytes used most : ℕ) (may : MayBegin bytes used most) (pair : PairVi
       subst (λ files. (overlaid files.main [] [] ≡ later) × (named_size files.main [] [] ≡ view.size) × (32 ≤ length files.log1) × (32 ≤ length files.log2)) (sym same)
       (r.settled.written.bare, r.sized, omega (arith, r.settled.log1.on.long), omega (arith, r.settled.log2.on.long))
 
-  -- a page of the map is all there
-  last_page : (pages : PageMap) (size : ℕ) → length pages ≡ 16 → All (λ page. length page ≡ size) pages → length (page_at pages 16) ≡ size
-  last_page pages size count all = nth pages 15 (omega (arith, count)) all
+  -- the last page of the map is all there
+  last_page : (pages : PageMap) (size number : ℕ) → length pages ≡ number → 1 ≤ number → All (λ page. length page ≡ size) pages → length (page_at pages number) ≡ size
+  last_page pages size zero is some all = absurd (omega (arith, some))
+  last_page pages size (suc k) is some all = nth pages k (omega (arith, is)) all
     where
       nth : (pages : PageMap) (k : ℕ) → k < length pages → All (λ page. length page ≡ size) pages → length (slice_index_or pages k []) ≡ size
       nth [] k less all = absurd (omega arith)
       nth (page ∷ pages) zero less all = All-head (λ (page : List ℕ). length page ≡ size) page pages all
       nth (page ∷ pages) (suc k) less all = nth pages k (omega arith) (All-tail (λ (page : List ℕ). length page ≡ size) page pages all)
 
-  main_long : (main : List ℕ) → named_size main [] [] ≡ bytes → HasSizes (overlaid main [] []) 16 bytes → 16 * bytes ≤ length main
+  main_long : (main : List ℕ) → named_size main [] [] ≡ bytes → HasSizes (overlaid main [] []) count bytes → count * bytes ≤ length main
   main_long main named sizes =
-      let page = page_of_overlaid bytes main [] [] 16 named (omega arith) (omega (arith, sizes.count)) in
-      let whole : length (take bytes (drop (15 * bytes) main)) ≡ bytes = sym (ap (λ (bytes : List ℕ). length bytes) page) ∙ last_page (overlaid main [] []) bytes sizes.count sizes.each in
-      omega (arith, whole, length-take bytes (drop (15 * bytes) main), length-drop (15 * bytes) main, (legal_size bytes may.legal).0)
+      let page = page_of_overlaid bytes main [] [] count named may.some (omega (arith, sizes.count)) in
+      let whole : length (take bytes (drop ((count - 1) * bytes) main)) ≡ bytes = sym (ap (λ (bytes : List ℕ). length bytes) page) ∙ last_page (overlaid main [] []) bytes count sizes.count may.some sizes.each in
+      omega (arith, whole, length-take bytes (drop ((count - 1) * bytes) main), length-drop ((count - 1) * bytes) main, (legal_size bytes may.legal).0, before count bytes may.some)
+    where
+      step : (m size : ℕ) → m * size + size ≡ (m + 1) * size
+      step m size = grind arith
 
-  pub first_sizes : (view : OpeningView) (later : PageMap) (told : Option History) → IfSome told (λ told. HasSizes later 16 bytes) → Since view.opening.start (IsReady view later kept.pair) told
-      → IfSome (newest_told kept told) (λ pages. HasSizes pages page_count bytes)
+      before : (n size : ℕ) → 1 ≤ n → (n - 1) * size + size ≡ n * size
+      before n size some = step (n - 1) size ∙ ap (λ (k : ℕ). k * size) (omega (arith, some))
+
+  pub first_sizes : (view : OpeningView) (later : PageMap) (told : Option History) → IfSome told (λ told. HasSizes later count bytes) → Since view.opening.start (IsReady view later kept.pair) told
+      → IfSome (newest_told kept told) (λ pages. HasSizes pages count bytes)
   first_sizes view later None sizes ready = tt
-  first_sizes view later (Some told) sizes ready = subst (λ (map : PageMap). HasSizes map 16 bytes) (sym (main_is view later told ready).0) sizes
+  first_sizes view later (Some told) sizes ready = subst (λ (map : PageMap). HasSizes map count bytes) (sym (main_is view later told ready).0) sizes
 
   pub first_newest : (view : OpeningView) (later : PageMap) (told : Option History) → Since view.opening.start (IsReady view later kept.pair) told
       → IfSome (newest_told kept told) (λ pages. pages ≡ later)
   first_newest view later None ready = tt
   first_newest view later (Some told) ready = (main_is view later told ready).0
 
-  pub first_readable : (view : OpeningView) (later : PageMap) (told : Option History) → view.size ≡ bytes → IfSome told (λ told. HasSizes later 16 bytes)
+  pub first_readable : (view : OpeningView) (later : PageMap) (told : Option History) → view.size ≡ bytes → IfSome told (λ told. HasSizes later count bytes)
       → Since view.opening.start (IsReady view later kept.pair) told → IsReadable kept told
   first_readable view later None sized sizes ready = record { log1 = tt; log2 = tt; main = tt }
   first_readable view later (Some told) sized sizes ready =
@@ -225,10 +230,10 @@ module _ (bytes used most : ℕ) (may : MayBegin bytes used most) (pair : PairVi
       record {
         log1 = omega (arith, files.2, none1);
         log2 = omega (arith, files.3, none2);
-        main = omega (arith, main_long (reads told).main (files.1 ∙ sized) (subst (λ (map : PageMap). HasSizes map 16 bytes) (sym files.0) sizes));
+        main = omega (arith, main_long (reads told).main (files.1 ∙ sized) (subst (λ (map : PageMap). HasSizes map count bytes) (sym files.0) sizes));
       }
 
-  pub first_live : (view : OpeningView) (later : PageMap) (told : Option History) → view.size ≡ bytes → IfSome told (λ told. HasSizes later 16 bytes)
+  pub first_live : (view : OpeningView) (later : PageMap) (told : Option History) → view.size ≡ bytes → IfSome told (λ told. HasSizes later count bytes)
       → Since view.opening.start (IsReady view later kept.pair) told → IsLiveStore told kept no_readers []
   first_live view later told sized sizes ready = record {
     whole = first_whole;
@@ -247,14 +252,14 @@ module _ (bytes used most : ℕ) (may : MayBegin bytes used most) (pair : PairVi
     frames = tt;
     salts = new.salts;
     begun = λ none. inr refl;
-    smaller = All-nil (λ (pin : Pin). pin.size ≤ page_count);
+    smaller = All-nil (λ (pin : Pin). pin.size ≤ count);
   }
   first_steady view later (Some told) sized ready = record {
     named = named_bare kept told no_readers refl refl ((main_is view later told ready).1 ∙ sized);
     frames = named_none bytes;
     salts = new.salts;
     begun = λ none. inr refl;
-    smaller = All-nil (λ (pin : Pin). pin.size ≤ page_count);
+    smaller = All-nil (λ (pin : Pin). pin.size ≤ count);
   }
 
   -- it stands for a run from its own map

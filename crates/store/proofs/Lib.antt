@@ -18,6 +18,7 @@ mod Resting
 mod Calls
 mod Beginning
 mod Settled
+mod Checked
 pub mod Mixed
 mod OpenLaws
 mod Opened

@@ -2,10 +2,8 @@
 use Rattle.std.proofs.Common.{◌≡◌, ℕ, false, Option, Some, None, subst}
 use Rattle.std.specs.Prelude.{IfSome}
 use Rattle.disk_face.specs.Steps.{History, reads}
-use Rattle.page_spec.specs.PageMap.{PageMap}
-use Rattle.opening_spec.specs.Found.{OpeningView}
 use Rattle.recover.specs.Seeing.{SeenView, IsSeen, fault_of, files_told}
-use Rattle.store.proofs.OpenLaws.{Says}
+use Rattle.recover.specs.declared.setup.StoreKind.{StoreKind}
 
 pub seen_still : (new_size : ℕ) (seen : SeenView) (told : Option History) → IfSome (files_told told) (λ files. IsSeen new_size files seen) → IfSome told (λ told. IsSeen new_size (reads told) seen)
 seen_still new_size seen None s = tt
@@ -15,5 +13,7 @@ pub fine_still : (told : Option History) → IfSome (files_told told) (λ files.
 fine_still None fine = tt
 fine_still (Some told) fine = fine
 
-pub says_still : (P : OpeningView → PageMap → History → Type 0) (seen : SeenView) (mid old new : Option History) → mid ≡ old → Says P seen mid new → Says P seen old new
-says_still P seen mid old new same says = subst (λ (o : Option History). Says P seen o new) same says
+-- what is said of the kind that was asked for, of the disk after the look, is said of this kind and the disk before
+module _ (kind asked : StoreKind) (is : asked ≡ kind) (mid old : Option History) (same : mid ≡ old) where
+  pub said_still : (P : StoreKind → Option History → Type 0) → P asked mid → P kind old
+  said_still P said = subst (λ (o : Option History). P kind o) same (subst (λ (k : StoreKind). P k mid) is said)

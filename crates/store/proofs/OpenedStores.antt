@@ -109,9 +109,9 @@ pub record BeginsLogs (most : ℕ) (kept : StoreData) : Type 0 where
   pub are : AreLogs (two_logs kept) kept.history
 
 pub begins_logs : (bytes used most : ℕ) (kept : StoreData) → IsBeginning bytes used most kept → BeginsLogs most kept
-begins_logs bytes used most kept b = subst (BeginsLogs most) (sym (kept_is bytes used most kept b)) first
+begins_logs bytes used most kept b = subst (BeginsLogs most) (sym (kept_is 16 bytes used most kept b)) first
   where
-    first : BeginsLogs most (first_kept bytes used most b.pair.one b.pair.two)
+    first : BeginsLogs most (first_kept 16 bytes used most b.pair.one b.pair.two)
     first =
         let generation = generation_of_one b.pair.one.generation b.pair.legal.0.1 in
         record {
@@ -153,7 +153,7 @@ pub record BeginsState (bytes used : ℕ) (told : Option History) (count : ℕ) 
 pub begins_state : (bytes used most : ℕ) (told : Option History) (faults : ℕ) (kept : StoreData) → IsBeginning bytes used most kept
     → BeginsState bytes used told faults kept (store_state told faults kept no_readers)
 begins_state bytes used most told faults kept b =
-    subst (λ (kept : StoreData). BeginsState bytes used told faults kept (store_state told faults kept no_readers)) (sym (kept_is bytes used most kept b))
+    subst (λ (kept : StoreData). BeginsState bytes used told faults kept (store_state told faults kept no_readers)) (sym (kept_is 16 bytes used most kept b))
     (record {
       history_is = refl;
       own = refl;

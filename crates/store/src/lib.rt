@@ -15,6 +15,7 @@ mod plan;
 mod room;
 mod solo;
 mod store;
+mod tables;
 mod write;
 
 pub use commits::{Commits, Wrote};

@@ -1,8 +1,9 @@
-// Why a database isn't opened as a store of pages.
+// Why a database isn't opened.
 ghost use Rattle.std.specs.Prelude.{◌≡◌, ◌<◌, ◌++◌, length, OnOk, OnErr};
-ghost use Rattle.store.specs.Opening.{fault_seen, is_mixed_seen, of_look};
+ghost use Rattle.store.specs.Opening.{fault_seen, is_mixed_seen, of_check, of_look};
 ghost use Rattle.store.specs.Texts.{open_text};
 
+use check_spec::CheckFault;
 use recover::{LookFault, Seen};
 use std::alloc::AllocError;
 use std::error::Error;
@@ -20,6 +21,9 @@ pub enum OpenFault {
     /// is the first of these counts that isn't 16, else 16; `byte` is that byte. Or all these are right, but the versions aren't this program's while log 2
     /// begins with a header of ours.
     NotPages { pages: u32, byte: u8 },
+    /// It is to hold tables, and a check of its pages found this first. It isn't `Disk` nor `Memory`: these are told as the two below. `page 1 at 28` comes
+    /// too where the pages are sound, but the count that page 1 gives once the database's file has them all isn't theirs, or they are more than 2^30 bytes.
+    Check(CheckFault),
     /// The disk failed.
     Disk,
     /// Want of memory.
@@ -36,6 +40,7 @@ impl fmt::Display for OpenFault {
         match *self {
             OpenFault::Look(why) => write!(f, "{why}"),
             OpenFault::NotPages { .. } => write!(f, "not a page store"),
+            OpenFault::Check(why) => write!(f, "{why}"),
             OpenFault::Disk => write!(f, "disk failed"),
             OpenFault::Memory => write!(f, "out of memory"),
         }
@@ -87,5 +92,16 @@ pub(crate) fn of_look(why: LookFault) -> OpenFault
         LookFault::Disk => OpenFault::Disk,
         LookFault::Memory => OpenFault::Memory,
         other => OpenFault::Look(other),
+    }
+}
+
+/// A fault of a check of the pages, as an opening tells it.
+pub(crate) fn of_check(why: CheckFault) -> OpenFault
+    ensures { result ≡ of_check why }
+{
+    match why {
+        CheckFault::Disk => OpenFault::Disk,
+        CheckFault::Memory => OpenFault::Memory,
+        other => OpenFault::Check(other),
     }
 }

@@ -72,7 +72,8 @@ impl<D: Disk, W: Salts, M: Means> Solo<D, W, M> {
 }
 
 impl<D: Disk, W: Salts + Drop, M: Means> Solo<D, W, M> {
-    /// Opens the database of a disk as [`Store::open`] does, as an engine with no reader. What is left after a refusal is said there.
+    /// Opens the database of a disk as [`Store::open`] does for pages, as an engine with no reader. What is left after a refusal is said there. A store of
+    /// tables is made an engine by [`Solo::new`].
     pub fn open(
         alloc: Global,
         disk: D,
@@ -95,12 +96,12 @@ impl<D: Disk, W: Salts + Drop, M: Means> Solo<D, W, M> {
         ensures moments { (told : History) → D.told disk ≡ Some told → MayOpen (size_opened setup.page_size (reads told)) told → MaySettle (reads told)
             → Passes (opening_at told) (LeavesSettling (view_at (size_opened setup.page_size (reads told)) told) (map_opened setup.page_size (reads told))) (StandsAs (as_store result) (opening_at told)) (D.told disk) (D.told (disk_of (as_store result))) }
         ensures opened { IfOk result (λ solo. IfSome (D.told disk) (λ told. AreOpened (D.journal_answer disk) (reads told))) }
-        ensures refused { IfErr result (λ refused. RefusesOpen (D.faults disk) (D.faults refused.1) (D.told disk) (D.told refused.1) (D.journal_answer disk) refused.0) }
+        ensures refused { IfErr result (λ refused. RefusesOpen Pages (D.faults disk) (D.faults refused.1) (D.told disk) (D.told refused.1) (D.journal_answer disk) refused.0) }
         ensures faults { IfOk result (λ solo. D.faults (store_of solo).disk ≡ D.faults disk) }
         ensures stays { OnlyWrites D.DiskTells disk (disk_of (as_store result)) }
         ensures loans { IfOk result (λ solo. W.loans (store_of solo).salts ≡ W.loans salts) }
     {
-        match Store::open(alloc, disk, salts, setup) {
+        match Store::open_pages(alloc, disk, salts, setup) {
             Ok(store) => Ok(Solo::new(store)),
             Err(refused) => Err(refused),
         }

@@ -1,11 +1,12 @@
 // The text of each fault of an opening, as it is told to users.
+use check_spec::CheckFault;
 use db_header::HeaderFault;
 use disk_face::File;
 use recover::LookFault;
 use std::alloc::{AllocError, Global};
 use store::{OpenFault, append_reason};
 
-const FAULTS: [OpenFault; 16] = [
+const FAULTS: [OpenFault; 21] = [
     OpenFault::Look(LookFault::Header(HeaderFault::NotADb)),
     OpenFault::Look(LookFault::Header(HeaderFault::PageSize(768))),
     OpenFault::Look(LookFault::Header(HeaderFault::Versions(1, 2))),
@@ -26,6 +27,11 @@ const FAULTS: [OpenFault; 16] = [
     }),
     OpenFault::Look(LookFault::Missing { page: 9 }),
     OpenFault::NotPages { pages: 2, byte: 0 },
+    OpenFault::Check(CheckFault::Page { page: 1, at: 28 }),
+    OpenFault::Check(CheckFault::Schema { rowid: -7 }),
+    OpenFault::Check(CheckFault::Order { page: 3, cell: 0 }),
+    OpenFault::Check(CheckFault::Twice { page: 5 }),
+    OpenFault::Check(CheckFault::Lost { page: 2 }),
     OpenFault::Disk,
     OpenFault::Memory,
 ];
@@ -44,6 +50,11 @@ foreign log 1 at 12
 foreign log 2 at 4
 missing page 9
 not a page store
+page 1 at 28
+schema row -7
+order page 3 cell 0
+twice page 5
+lost page 2
 disk failed
 out of memory
 ";

@@ -1,4 +1,4 @@
-use Rattle.std.proofs.Common.{◌∷◌, ℕ, List, length, refl, ap, arith}
+use Rattle.std.proofs.Common.{◌∷◌, ℕ, List, length, inl, refl, ap, arith}
 use Rattle.recover.proofs.SeenFiles.{legal_size}
 use Rattle.recover.proofs.RecoveredPages.{inside_told, read_told, still_looked, same_pages}
 use Rattle.recover.proofs.recovered.RecoveredPages.fetch.Goals as goal
@@ -43,7 +43,11 @@ returns-in-Ok g c =
           usable = refl;
           faults = omega (arith, c.in-Ok.ensures.faults);
           loans = ap (λ (names : List ℕ). disk.ghost_name ∷ names) stays.loans;
-          follows = (refl, stays);
+          follows = record {
+            seen = refl;
+            stays = stays;
+            counts = record { later = omega (arith, c.in-Ok.ensures.faults); none = λ is. (is, c.in-Ok.ensures.faults); some = λ is. inl is };
+          };
         };
       };
     }
