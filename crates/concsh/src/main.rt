@@ -1,4 +1,4 @@
-//! Runs a script of lines on standard input, and writes the reply to each on standard output.
+//! Runs a script of lines on standard input, and writes the reply to each on standard output; or checks a database, and writes what it has.
 #![tactic(auto)]
 
 ghost use Rattle.std.specs.Prelude.{◌≡◌, drop, map, IfOk, string_bytes};

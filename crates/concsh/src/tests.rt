@@ -136,6 +136,15 @@ fn scripts_and_faults(rt: HostRuntime) -> Result<(), Fail> {
             words: b"pages --limit 0 db",
             ..plain(SNAPSHOTS, 2, b"words refused\n")
         },
+        // A check reads no line, whatever the source has.
+        Row {
+            words: b"check db",
+            ..plain(b"no line", 0, b"pages 1 trees 1 free 0\n")
+        },
+        Row {
+            words: b"check",
+            ..plain(SNAPSHOTS, 2, b"words refused\n")
+        },
         Row {
             words: b"frob",
             sink_fails: Some(1),

@@ -6,8 +6,9 @@ ghost use Rattle.page_runs.specs.Outcome.{words_refused, SaysLast};
 ghost use Rattle.page_runs.specs.Status.{EndsWith};
 ghost use Rattle.words.specs.Seen.{pages_asked};
 ghost use Rattle.words.specs.Words.{AreWithinLimits, request_of};
-ghost use Rattle.concsh.specs.Program.{EndsAsItsScript, NameFiles, Runs, RunsPages};
+ghost use Rattle.concsh.specs.Program.{EndsByItself, NameFiles, Runs, RunsPages};
 
+use disk_checks::check_on_disk;
 use disk_face::{Disk, Salts, Sink, Source, Word};
 use disk_runs::run_on_disk;
 use page_runs::{Status, run_in_memory, say_last};
@@ -18,7 +19,8 @@ use words::{Pages, Request, read_words};
 /// Runs what the words ask for, and gives the number of the status that the program ends with.
 ///
 /// The words are those of the crate `words`: `pages` runs page lines over 16 pages of zeros in memory, or over the files of a path. Each
-/// line of the script is run and answered before the next one is taken. The statuses are those of [`Status`].
+/// line of the script is run and answered before the next one is taken. `check` checks the files of a path, and takes nothing of the source.
+/// The statuses are those of [`Status`].
 pub fn top<D: Disk, S: Source, K: Sink, W: Salts>(
     alloc: Global,
     words: &[Word],
@@ -30,7 +32,7 @@ pub fn top<D: Disk, S: Source, K: Sink, W: Salts>(
     requires unattached { D.attached disk.old ≡ false }
 
     // What is asked for was done: what each status says of the run and of what was written, what its lines did to the files and what a
-    // crash may leave of them at each moment, and which faults it tells of.
+    // crash may leave of them at each moment, and which faults it tells of; of a check, what was counted.
     ensures run { IfSome (request_of words.now) (λ asked.
         EndsWith result (λ ended. Runs D.DiskTells S.Source K.Sink asked ended disk.old src.old out.old disk.new src.new out.new)) }
 
@@ -38,10 +40,10 @@ pub fn top<D: Disk, S: Source, K: Sink, W: Salts>(
     ensures refused { request_of words.now ≡ None → EndsWith result (λ ended. SaysLast K.Sink words_refused status.WordsRefused ended out.old out.new) }
     ensures untaken { request_of words.now ≡ None → src.new ≡ src.old }
 
-    // Where nothing outside failed, the status is the script's, or memory ran out, or the database was refused.
+    // Where nothing outside failed, the status is the script's, or memory ran out, or the database was refused; a check that wasn't refused ends well.
     ensures complete { IfSome (request_of words.now) (λ asked. ¬ Rose (D.faults disk.old) (D.faults disk.new)
         → ¬ Rose (S.faults src.old) (S.faults src.new) → ¬ Rose (K.faults out.old) (K.faults out.new)
-        → IfSome (S.left src.old) (λ script. EndsAsItsScript asked script result)) }
+        → EndsByItself asked (S.left src.old) result) }
 
     // Without a database the disk and the random words are left alone.
     ensures untouched { ¬ NameFiles (request_of words.now) → (disk.new ≡ disk.old) × (salts.new ≡ salts.old) }
@@ -69,6 +71,7 @@ fn run<D: Disk, S: Source, K: Sink, W: Salts>(
     match read_words(words) {
         None => say_last(out, b"words refused\n", Status::WordsRefused),
         Some(Request::Pages(pages)) => run_lines(alloc, pages, disk, src, out, salts),
+        Some(Request::Check { path }) => check_on_disk(alloc, path, disk, out, salts),
     }
 }
 

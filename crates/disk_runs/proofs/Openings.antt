@@ -8,6 +8,7 @@ use Rattle.crash_spec.specs.Moments.{AtEachMoment}
 use Rattle.crash_spec.proofs.Moments.{each_weaker}
 use Rattle.opening_spec.specs.Begins.{view_at}
 use Rattle.recover.specs.Ready.{LeavesSettling}
+use Rattle.recover.specs.declared.setup.StoreKind.TheVariants.{Pages}
 use Rattle.store.specs.Opening.{map_opened, size_opened}
 use Rattle.store.proofs.Mixed.{opened_settles}
 use Rattle.reopening.proofs.Openings.{settling_opens}
@@ -27,7 +28,7 @@ weaker_moments opening Leaves Less less (Some old) (Some new) (since, more, is, 
   each_weaker opening.before Leaves Less less (rebased opening.start (more ++ since)) (length since) each,
 )
 
-pub reopens_settling : (new_size : ℕ) → is_page_size new_size ≡ true → (old new : Option History) → Settles new_size old new → Reopens new_size old new
+pub reopens_settling : (new_size : ℕ) → is_page_size new_size ≡ true → (old new : Option History) → Settles Pages new_size old new → Reopens new_size old new
 reopens_settling new_size legal old new settles told is may hot opened =
     weaker_moments (opening_at told) (LeavesSettling (view_at (size_opened new_size (reads told)) told) (map_opened new_size (reads told)))
     (OpensSettling (view_at (size_opened new_size (reads told)) told)) less old new (settles told is may (opened_settles hot (reads told) opened))

@@ -28,6 +28,7 @@ use Rattle.acts.specs.Logged.{StandsLogged, past_of}
 use Rattle.acts.specs.Pagers.{LeavesItsMaps}
 use Rattle.acts.proofs.LoggedPlays.{RunsLogged, begins_logged, runs_logged, plays_logged}
 use Rattle.recover.specs.Ready.{LeavesSettling}
+use Rattle.recover.specs.declared.setup.StoreKind.TheVariants.{Pages}
 use Rattle.store_spec.specs.Store.{StoreData, two_logs}
 use Rattle.store.specs.Kept.{kept_of, state_of}
 use Rattle.recover.specs.Seeing.{generation_opened}
@@ -199,7 +200,7 @@ module _ {D W M : Type 0} (disk : disks.Ghosts D) (loans : W → List ℕ) (mean
     (moments : (told : History) → disk.told d ≡ Some told → MayOpen (size_opened new_size (reads told)) told → MaySettle (reads told)
     → Passes (opening_at told) (LeavesSettling (view_at (size_opened new_size (reads told)) told) (map_opened new_size (reads told)))
     (StandsAs (as_store {D = D} {W = W} {M = M} (Ok solo)) (opening_at told)) (disk.told d) (disk.told (store_of solo).disk)) where
-  pub settles_moments : Settles new_size (disk.told d) (disk.told (store_of solo).disk)
+  pub settles_moments : Settles Pages new_size (disk.told d) (disk.told (store_of solo).disk)
   settles_moments told is may settles = (moments told is may settles).each_moment
 
   pub opened_since : IfSome (disk.told d) (λ told. AreOpened hot (reads told)) → (told : History) → disk.told d ≡ Some told → (opening : Opening)

@@ -32,7 +32,9 @@ use Rattle.page_lines.specs.World.{world_over}
 use Rattle.acts.specs.Pagers.{Plays}
 use Rattle.recover.specs.Ready.{LeavesSettling}
 use Rattle.recover.specs.Seeing.{generation_opened}
-use Rattle.store.specs.Opening.{AreOpened, MaySettle, RefusesOpen, map_opened, size_opened}
+use Rattle.recover.specs.declared.setup.StoreKind.{StoreKind}
+use Rattle.recover.specs.declared.setup.StoreKind.TheVariants.{Pages}
+use Rattle.store.specs.Opening.{AreOpened, MaySettle, RefusesOpen, map_begun, map_opened, size_opened}
 use Rattle.store.specs.Texts.{open_text}
 use Rattle.store.specs.declared.open_fault.OpenFault.{OpenFault}
 use Rattle.store.specs.declared.open_fault.OpenFault.TheVariants as refusal
@@ -57,6 +59,7 @@ SaysReason sink why ended out out' =
 abbrev pub SaysWhy : {K : Type 0} → sinks.Ghosts K → OpenFault → Status → K → K → Type 0
 SaysWhy sink (refusal.Look why) ended out out' = SaysReason sink (refusal.Look why) ended out out'
 SaysWhy sink (refusal.NotPages pages byte) ended out out' = SaysReason sink (refusal.NotPages pages byte) ended out out'
+SaysWhy sink (refusal.Check why) ended out out' = SaysReason sink (refusal.Check why) ended out out'
 SaysWhy sink refusal.Disk ended out out' = SaysLast sink disk_failed status.DiskFailed ended out out'
 SaysWhy sink refusal.Memory ended out out' = (ended ≡ status.NoMemory) × (out' ≡ out)
 
@@ -142,40 +145,43 @@ abbrev pub IsAnsweredOnDisk : (new_size generation limit : ℕ) → Option Histo
 IsAnsweredOnDisk new_size generation limit told begun ended acts answers = IsPlayed generation limit begun ended acts answers
     × IfSome told (λ told. IsRunFrom new_size generation limit told begun ended acts answers)
 
--- While the store is opened, a crash leaves at each moment the map before, or the one with which the store begins; before the logs are
+-- While a store of this kind is opened, a crash leaves at each moment the map before, or the one with which the store begins; before the logs are
 -- synced, what it might have left at the start.
-abbrev pub Settles : (new_size : ℕ) → Option History → Option History → Type 0
-Settles new_size old new = (told : History) → old ≡ Some told → MayOpen (size_opened new_size (reads told)) told → MaySettle (reads told)
-    → AtEachMoment (opening_at told) (LeavesSettling (view_at (size_opened new_size (reads told)) told) (map_opened new_size (reads told))) old new
+abbrev pub Settles : StoreKind → (new_size : ℕ) → Option History → Option History → Type 0
+Settles kind new_size old new = (told : History) → old ≡ Some told → MayOpen (size_opened new_size (reads told)) told → MaySettle (reads told)
+    → AtEachMoment (opening_at told) (LeavesSettling (view_at (size_opened new_size (reads told)) told) (map_begun kind new_size (reads told))) old new
 
 -- What a crash leaves then is opened again; or a log that isn't empty wasn't synced yet, and the crash leaves what it might have left at the
 -- start.
 abbrev pub OpensSettling : OpeningView → History → Files → Type 0
 OpensSettling view told image = OpensAgain view.opening told image ⊎ ((all_synced told ≡ false) × LeftAtStart view told image)
 
--- While a store is opened whose files at the start nothing bars, so is at each moment what a crash leaves.
+-- While a page store is opened whose files at the start nothing bars, so is at each moment what a crash leaves.
 abbrev pub Reopens : (new_size : ℕ) → Option History → Option History → Type 0
 Reopens new_size old new =
     (told : History) → old ≡ Some told → MayOpen (size_opened new_size (reads told)) told → (hot : Option Bool) → AreOpened hot (reads told)
     → AtEachMoment (opening_at told) (OpensSettling (view_at (size_opened new_size (reads told)) told)) old new
 
 -- The files couldn't be named.
-pub record Unnamed {D S K : Type 0} (disk : disks.Ghosts D) (sink : sinks.Ghosts K) (ended : Status) (d : D) (src : S) (out : K) (d' : D) (src' : S)
-    (out' : K) : Type 0 where
+pub record Unnamed {D K : Type 0} (disk : disks.Ghosts D) (sink : sinks.Ghosts K) (ended : Status) (d : D) (out : K) (d' : D) (out' : K) : Type 0 where
   pub rose : Rose (disk.faults d) (disk.faults d')
   pub named : disk.named d' ≡ disk.named d
   pub stays : OnlyNames disk d d'
   pub says : SaysLast sink disk_failed status.DiskFailed ended out out'
-  pub untaken : src' ≡ src
 
--- The store wasn't opened.
-pub record Unopened {D S K : Type 0} (disk : disks.Ghosts D) (sink : sinks.Ghosts K) (new_size : ℕ) (ended : Status) (d : D) (src : S) (out : K) (d' : D)
-    (src' : S) (out' : K) : Type 0 where
+-- The files weren't opened as a store of this kind.
+pub record Unopened {D K : Type 0} (disk : disks.Ghosts D) (sink : sinks.Ghosts K) (kind : StoreKind) (new_size : ℕ) (ended : Status) (d : D) (out : K) (d' : D)
+    (out' : K) : Type 0 where
   pub why : OpenFault
-  pub refused : RefusesOpen (disk.faults d) (disk.faults d') (disk.told d) (disk.told d') (disk.journal_answer d) why
-  pub moments : Settles new_size (disk.told d) (disk.told d')
-  pub reopens : Reopens new_size (disk.told d) (disk.told d')
+  pub refused : RefusesOpen kind (disk.faults d) (disk.faults d') (disk.told d) (disk.told d') (disk.journal_answer d) why
+  pub moments : Settles kind new_size (disk.told d) (disk.told d')
   pub says : SaysWhy sink why ended out out'
+
+-- For a run: the store wasn't opened, and nothing of the script was taken.
+pub record RunsNothing {D S K : Type 0} (disk : disks.Ghosts D) (sink : sinks.Ghosts K) (new_size : ℕ) (ended : Status) (d : D) (src : S) (out : K) (d' : D)
+    (src' : S) (out' : K) : Type 0 where
+  pub unopened : Unopened disk sink Pages new_size ended d out d' out'
+  pub reopens : Reopens new_size (disk.told d) (disk.told d')
   pub untaken : src' ≡ src
 
 -- It was opened, and the script ran over it: what its lines write, and what they do to the files.
@@ -186,7 +192,7 @@ pub record RunsStore {D S K : Type 0} (disk : disks.Ghosts D) (source : sources.
   pub generation_is : IfSome (disk.told d) (λ told. generation ≡ generation_opened (reads told))
   pub faults : begun.faults ≡ disk.faults d
   pub opened : IfSome (disk.told d) (λ told. AreOpened (disk.journal_answer d) (reads told))
-  pub moments : Settles new_size (disk.told d) begun.past
+  pub moments : Settles Pages new_size (disk.told d) begun.past
   pub reopens : Reopens new_size (disk.told d) begun.past
   pub run : RunEnds source sink
       (IsAnsweredOnDisk new_size generation limit (disk.told d) begun (record { faults = disk.faults d'; past = disk.told d' })) ended src out src' out'
@@ -194,7 +200,7 @@ pub record RunsStore {D S K : Type 0} (disk : disks.Ghosts D) (source : sources.
 -- A run over files that are named: the store wasn't opened, or it was.
 abbrev pub RunsOpened : {D S K : Type 0} → disks.Ghosts D → sources.Ghosts S → sinks.Ghosts K → (new_size limit : ℕ) → Status → D → S → K → D → S → K → Type 0
 RunsOpened disk source sink new_size limit ended d src out d' src' out' =
-    Unopened disk sink new_size ended d src out d' src' out' ⊎ RunsStore disk source sink new_size limit ended d src out d' src' out'
+    RunsNothing disk sink new_size ended d src out d' src' out' ⊎ RunsStore disk source sink new_size limit ended d src out d' src' out'
 
 -- The files of this path were named, and then the run was over them.
 pub record RunsNamed {D S K : Type 0} (disk : disks.Ghosts D) (source : sources.Ghosts S) (sink : sinks.Ghosts K) (path : List ℕ) (new_size limit : ℕ)
@@ -210,4 +216,4 @@ pub record RunsNamed {D S K : Type 0} (disk : disks.Ghosts D) (source : sources.
 abbrev pub RunsOnDisk : {D S K : Type 0} → disks.Ghosts D → sources.Ghosts S → sinks.Ghosts K → (path : List ℕ) (new_size limit : ℕ) → Status
     → D → S → K → D → S → K → Type 0
 RunsOnDisk disk source sink path new_size limit ended d src out d' src' out' =
-    Unnamed disk sink ended d src out d' src' out' ⊎ RunsNamed disk source sink path new_size limit ended d src out d' src' out'
+    (Unnamed disk sink ended d out d' out' × (src' ≡ src)) ⊎ RunsNamed disk source sink path new_size limit ended d src out d' src' out'

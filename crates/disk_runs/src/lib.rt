@@ -5,4 +5,4 @@
 
 mod on_disk;
 
-pub use on_disk::run_on_disk;
+pub use on_disk::{run_on_disk, say_why};

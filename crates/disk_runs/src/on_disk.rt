@@ -86,15 +86,17 @@ fn run_store<D: Disk, S: Source, K: Sink, W: Salts + Drop>(
     (status, disk)
 }
 
-/// Writes the last line of a run whose database wasn't opened.
-fn say_why<K: Sink>(alloc: Global, why: &OpenFault, out: &mut K) -> Status
+/// Writes the last line of a program whose database wasn't opened.
+pub fn say_why<K: Sink>(alloc: Global, why: &OpenFault, out: &mut K) -> Status
     ensures says { SaysWhy K.Sink why.now result out.old out.new }
     ensures loans { K.loans out.new ≡ K.loans out.old }
 {
     match why {
         OpenFault::Disk => say_last(out, b"disk failed\n", Status::DiskFailed),
         OpenFault::Memory => Status::NoMemory,
-        OpenFault::Look(_) | OpenFault::NotPages { .. } => say_reason(alloc, why, out),
+        OpenFault::Look(_) | OpenFault::NotPages { .. } | OpenFault::Check(_) => {
+            say_reason(alloc, why, out)
+        }
     }
 }
 

@@ -30,9 +30,14 @@ fn in_memory(limit: u32, page_size: u32) -> Option<Request<'static>> {
     }))
 }
 
+/// A check of the database of this path.
+fn checked(path: &[u8]) -> Option<Request<'_>> {
+    Some(Request::Check { path })
+}
+
 #[test]
 fn words_and_what_they_ask_for(rt: HostRuntime) -> Result<(), Fail> {
-    let rows: [(&[u8], Option<Request>); 54] = [
+    let rows: [(&[u8], Option<Request>); 78] = [
         (b"pages", in_memory(1000, 4096)),
         (b"pages --limit 9", in_memory(9, 4096)),
         (b"pages --page-size=512", in_memory(1000, 512)),
@@ -87,6 +92,30 @@ fn words_and_what_they_ask_for(rt: HostRuntime) -> Result<(), Fail> {
         (b"pages --pagesize 512 db", None),
         (b"pages \xff", None),
         (b"--limit 4 pages", None),
+        (b"check db", checked(b"db")),
+        (b"check -", checked(b"-")),
+        (b"check -- -x", checked(b"-x")),
+        (b"check -- --", checked(b"--")),
+        (b"check -- --limit", checked(b"--limit")),
+        (b"check \xc3\xa4", checked(b"\xc3\xa4")),
+        (b"check", None),
+        (b"check --", None),
+        (b"check ", None),
+        (b"check -- ", None),
+        (b"check a b", None),
+        (b"check a -- b", None),
+        (b"check -x", None),
+        (b"check --limit", None),
+        (b"check --limit 5 a", None),
+        (b"check --limit=5 a", None),
+        (b"check a --limit 5", None),
+        (b"check --page-size 512 a", None),
+        (b"check --page-size=512 a", None),
+        (b"check --limit 0 a", None),
+        (b"check --help", None),
+        (b"check \xff", None),
+        (b"checks a", None),
+        (b"Check a", None),
     ];
     for (line, expected) in rows {
         let words = words_of(rt.alloc(), line)?;

@@ -5,7 +5,7 @@ ghost use Rattle.page_runs.specs.Status.{code_of};
 /// How a run of the program ended.
 #[derive(Clone, Copy, Debug, PartialEq, Eq)]
 pub enum Status {
-    /// The script was read to its end.
+    /// The script was read to its end; or, where none is read, what was asked for is done.
     Done,
     /// A line isn't in the grammar or past a limit, and the last line written names it.
     ScriptRefused,

@@ -1,9 +1,9 @@
 -- What is asked for is within its limits.
-use Rattle.std.proofs.Common.{◌≡◌, ℕ, ◌≤◌, true, false, ◌&&◌, cond, leb, codes, bytes_eq, List, [], ◌∷◌, Option, Some, None, IfSome, IsTrue, unwrap_or, Bool, refl, subst, arith}
+use Rattle.std.proofs.Common.{◌≡◌, ℕ, ◌≤◌, true, false, ◌&&◌, cond, leb, codes, bytes_eq, List, [], ◌∷◌, Option, Some, None, IfSome, IsTrue, is_none, unwrap_or, Bool, refl, subst, arith}
 use Rattle.std.proofs.lemmas.Bool.{and_parts, leb-true}
 use Rattle.std.proofs.lemmas.Option.{none-some, same_Some, cond_some, option_and_then_some}
 use Rattle.page_spec.specs.Header.{is_page_size}
-use Rattle.words.specs.Words.{GivenWords, nothing_given, is_path, is_number, is_limit, is_size, is_dashed, has_front, without_front, number_spelled, with_path, with_limit, with_size, with_word, given_as_paths, given_by, pages_of, AreWithinLimits}
+use Rattle.words.specs.Words.{GivenWords, nothing_given, is_path, is_number, is_limit, is_size, is_dashed, has_front, without_front, number_spelled, with_path, with_limit, with_size, with_word, given_as_paths, given_by, pages_of, path_alone, AreWithinLimits}
 
 -- what is given so far is within its limits
 pub record AreWithin (given : GivenWords) : Type 0 where
@@ -93,3 +93,14 @@ filled_within given within = record {
     size_or : (size : Option ℕ) → IfSome size (λ size. IsTrue (is_page_size size)) → IsTrue (is_page_size (unwrap_or size 4096))
     size_or None within = refl
     size_or (Some size) within = within
+
+-- a path that is all that is given is one
+pub alone_within : (given : GivenWords) (path : List ℕ) → AreWithin given → path_alone given ≡ Some path → IsTrue (is_path path)
+unfolding path_alone
+alone_within given path within so = by_path given.path (is_none given.limit && is_none given.page_size) within.path so
+  where
+    by_path : (found : Option (List ℕ)) (alone : Bool) → IfSome found (λ path. IsTrue (is_path path)) → cond alone found None ≡ Some path → IsTrue (is_path path)
+    by_path None true within so = absurd (none-some path so)
+    by_path None false within so = absurd (none-some path so)
+    by_path (Some one) true within so = subst (λ word. IsTrue (is_path word)) (same_Some one path so) within
+    by_path (Some one) false within so = absurd (none-some path so)

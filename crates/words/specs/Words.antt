@@ -98,19 +98,25 @@ pub record PagesAsked : Type 0 where
   pub limit : ℕ
   pub page_size : ℕ
 
--- what is asked for, by the command
+-- what is asked for, by the command: a run of page lines, or a check of the database of this path
 pub data Asked : Type 0 where
   page_lines : PagesAsked → Asked
+  check_database : (path : List ℕ) → Asked
 
 -- what stands where an option isn't given
 abbrev pub pages_of : GivenWords → PagesAsked
 pages_of given = record { path = given.path; limit = unwrap_or given.limit 1000; page_size = unwrap_or given.page_size 4096 }
+
+-- the path that is given, where it is all that is given
+unfoldable pub path_alone : GivenWords → Option (List ℕ)
+path_alone given = if is_none given.limit && is_none given.page_size then given.path else None
 
 -- What the words ask for. The first one is the command. None is for words that are refused.
 unfoldable pub request_of : List (List ℕ) → Option Asked
 request_of [] = None
 request_of (command ∷ words) =
     if bytes_eq command (codes "pages") then option_map (λ given. page_lines (pages_of given)) (given_by words nothing_given)
+    else if bytes_eq command (codes "check") then option_map check_database (option_and_then path_alone (given_by words nothing_given))
     else None
 
 -- the values of a run of page lines are within their limits
@@ -122,3 +128,4 @@ pub record AreWithinLimits (pages : PagesAsked) : Type 0 where
 -- what is asked for is within its limits
 abbrev pub IsWithinLimits : Asked → Type 0
 IsWithinLimits (page_lines pages) = AreWithinLimits pages
+IsWithinLimits (check_database path) = IsTrue (is_path path)

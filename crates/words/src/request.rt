@@ -1,7 +1,8 @@
 // What the words ask for, by the command.
 ghost use Rattle.std.specs.Prelude.{◌≡◌, option_map, IfSome};
+ghost use Rattle.std.specs.Option.{option_copied};
 ghost use Rattle.words.specs.Seen.{asked_by, given_in, pages_asked};
-ghost use Rattle.words.specs.Words.{IsWithinLimits, pages_of, request_of};
+ghost use Rattle.words.specs.Words.{IsWithinLimits, pages_of, path_alone, request_of};
 
 use crate::found::{Found, found_in, is};
 use disk_face::Word;
@@ -11,6 +12,8 @@ use disk_face::Word;
 pub enum Request<'a> {
     /// `pages`: runs page lines.
     Pages(Pages<'a>),
+    /// `check`: checks the database of this path, which is UTF-8 and not empty.
+    Check { path: &'a [u8] },
 }
 
 /// A run of page lines.
@@ -33,6 +36,9 @@ pub fn read_words(words: &[Word]) -> Option<Request<'_>>
     let (command, behind) = words.split_first()?;
     if is(command, b"pages") {
         Some(Request::Pages(filled(found_in(behind)?)))
+    } else if is(command, b"check") {
+        let path = path_alone(found_in(behind)?)?;
+        Some(Request::Check { path })
     } else {
         None
     }
@@ -47,4 +53,15 @@ fn filled(found: Found<'_>) -> Pages<'_>
         limit: found.limit.unwrap_or(1000),
         page_size: found.page_size.unwrap_or(4096),
     }
+}
+
+/// The path that was found, where it is all that was.
+#[tactic(auto, unfolding(crate::specs::Words::path_alone))]
+fn path_alone(found: Found<'_>) -> Option<&[u8]>
+    ensures { option_copied result ≡ path_alone (given_in found.entry) }
+{
+    if found.limit.is_some() || found.page_size.is_some() {
+        return None;
+    }
+    found.path
 }

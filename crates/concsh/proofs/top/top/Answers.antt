@@ -1,6 +1,6 @@
-use Rattle.std.proofs.Common.{IfSome, subst, sym}
+use Rattle.std.proofs.Common.{subst, sym}
 use Rattle.std.proofs.lemmas.Option.{IfSome_then}
-use Rattle.concsh.specs.Program.{EndsAsItsScript}
+use Rattle.concsh.specs.Program.{EndsByItself}
 use Rattle.concsh.proofs.Complete.{runs_end}
 use Rattle.concsh.proofs.top.top.Goals as goal
 use Rattle.words.specs.Words.{request_of}
@@ -13,5 +13,5 @@ returns-clause-refused g c = λ refused. (c.run.result, c.code.ensures, c.run.en
 
 pub returns-clause-complete : goal.returns-clause-complete
 returns-clause-complete g c = IfSome_then (request_of c.args.words.now) c.run.ensures.run (λ asked runs no_disk no_source no_sink.
-    subst (λ number. IfSome (g.S.Source.left c.args.src.now) (λ script. EndsAsItsScript asked script number)) (sym c.code.ensures)
+    subst (λ number. EndsByItself asked (g.S.Source.left c.args.src.now) number) (sym c.code.ensures)
     (runs_end g.D.DiskTells g.S.Source g.K.Sink asked c.run.result c.args.disk.now c.args.src.now c.args.out.now c.run.new.disk c.run.new.src c.run.new.out runs no_disk no_source no_sink))

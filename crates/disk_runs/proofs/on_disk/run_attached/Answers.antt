@@ -16,10 +16,7 @@ returns-in-Ok-clause-run g c =
 pub returns-in-Err-clause-run : goal.returns-in-Err-clause-run
 returns-in-Err-clause-run g c =
     inl (record {
-      why = c.in-Err.why;
-      refused = c.in-Err.ensures.refused;
-      moments = search rules;
+      unopened = record { why = c.in-Err.why; refused = c.in-Err.ensures.refused; moments = search rules; says = search rules };
       reopens = reopens_settling c.args.setup.page_size c.requires.page_size (g.D.DiskTells.told c.args.disk) _ (search rules);
-      says = search rules;
       untaken = search rules;
     })
