@@ -1,0 +1,5 @@
+mod Cells
+mod Since
+mod InLeaf
+mod Below
+mod Refused
