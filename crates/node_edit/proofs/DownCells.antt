@@ -1,16 +1,16 @@
 -- What comes down from the page above: the key of a cell, alone or behind another left child.
-use Rattle.std.proofs.Common.{◌≡◌, ℕ, ◌+◌, ◌-◌, ◌<◌, ◌≤◌, ◌&&◌, Bool, true, false, List, length, take, drop, refl, sym, ap, subst, ◌∙◌, inl, arith, length-drop}
+use Rattle.std.proofs.Common.{◌≡◌, ℕ, ◌+◌, ◌-◌, ◌<◌, ◌&&◌, true, false, List, length, take, drop, refl, sym, ap, subst, ◌∙◌, inl, arith, length-drop}
 use Rattle.std.proofs.lemmas.List.{take_all}
 use Rattle.page_spec.specs.Bytes.{u32_at}
 use Rattle.page_spec.specs.Varint.{varint_size, varint_number}
 use Rattle.node_spec.specs.declared.kinds.Kind.{Kind}
 use Rattle.node_spec.specs.declared.kinds.Kind.TheVariants.{IndexInner, TableInner, IndexLeaf, TableLeaf}
 use Rattle.node_spec.specs.Kinds.{is_leaf, is_table}
-use Rattle.node_spec.specs.Cells.{IsOneCell, spills, local_size, left_size, keys_size, payload_in, rowid_in, body_size, payload_at, cell_in}
+use Rattle.node_spec.specs.Cells.{IsOneCell, spills, local_size, keys_size, payload_in, rowid_in, body_size, payload_at, cell_in}
 use Rattle.node_edit.specs.Keys.{kind_above, LeadsTo, ComesDown}
 use Rattle.node_edit.specs.Dividing.{body_in}
 use Rattle.node_edit.proofs.KeyLaws.{key_leads, leads_as}
-use Rattle.node_edit.proofs.UpKeys.{one_long, inner_long, index_leaf, up_says, range_behind, number_behind, overflow_same}
+use Rattle.node_edit.proofs.UpKeys.{one_long, inner_long, up_says, range_behind, number_behind, overflow_same}
 
 -- a cell of an interior page has its left child
 pub above_long : (kind : Kind) (usable : ℕ) (cell : List ℕ) → IsOneCell (kind_above kind) usable cell → 4 < length cell

@@ -73,9 +73,9 @@ pub(crate) fn divide_between(
     requires long { (crowd.run.u ≤ length left.old) × (crowd.run.u ≤ length bytes.old) }
     ensures parts { IfOk result (λ key. (cells : List NodeCell) → CutsBetween crowd.entry cells limit
         → ShowTwo crowd.entry.run.u crowd.entry.first (whole_of crowd.entry cells) key left.new bytes.new) }
-    ensures same { OnErr result ((left.new ≡ left.old) × (bytes.new ≡ bytes.old)) }
+    ensures same { OnErr result (bytes.new ≡ bytes.old) }
     ensures length { length left.new ≡ length left.old }
-    ensures rest { KeepsOutside crowd.entry.run.u false left.old left.new × KeepsOutside crowd.entry.run.u crowd.entry.first bytes.old bytes.new }
+    ensures rest { KeepsOutside crowd.entry.run.u crowd.entry.first bytes.old bytes.new }
 {
     let cut = reach(crowd.run, 0, crowd.count - 2, limit);
     let key = up_key(alloc, crowd.run, cut)?;

@@ -5,7 +5,6 @@
 //! the parts of a divided page takes memory.
 #![tactic(auto)]
 
-mod again;
 mod between;
 mod copy;
 mod crowd;
@@ -15,13 +14,14 @@ mod head;
 mod join;
 mod keys;
 mod leaves;
+mod payloads;
 mod put;
 mod run;
 
-pub use again::divide_joined;
 pub use copy::copy_node;
 pub use division::{Divided, divide};
 pub use down::cell_down;
 pub use join::take_over;
 pub use keys::cell_above;
+pub use payloads::leaf_cell;
 pub use put::{put_cells, start_inner};

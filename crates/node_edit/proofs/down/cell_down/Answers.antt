@@ -1,4 +1,4 @@
-use Rattle.std.proofs.Common.{◌≡◌, ◌+◌, ℕ, List, length, sym, ap, ◌∙◌, arith}
+use Rattle.std.proofs.Common.{ℕ, List, length, sym, ap, ◌∙◌, arith}
 use Rattle.node_edit.proofs.DownCells.{above_long, down_leaf, down_inner, behind}
 use Rattle.node_edit.proofs.KeyLaws.{leads_as}
 use Rattle.node_edit.proofs.down.cell_down.Goals as goal

@@ -1,5 +1,0 @@
-mod Cells
-mod Since
-mod InLeaf
-mod Below
-mod Refused
