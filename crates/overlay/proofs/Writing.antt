@@ -12,7 +12,7 @@ use Rattle.engine_spec.specs.Change.{Change, image_of}
 use Rattle.engine_spec.proofs.PageSets.{with_has, with_keeps, with_cases}
 use Rattle.page_face.specs.declared.engine_tells.EngineTells.{Ghosts}
 use Rattle.overlay.specs.Images.{with_put}
-use Rattle.overlay.specs.Overlay.{OverlayState, own_image, has_own, over_change, with_own, put_in_overlay, first_in_overlay, with_new, with_freed_page, last_page, IsChangeInOrder}
+use Rattle.overlay.specs.Overlay.{OverlayState, own_image, has_own_image, over_change, with_own, put_in_overlay, first_in_overlay, with_new, with_freed_page, last_page, IsChangeInOrder}
 use Rattle.overlay.specs.FreeNumbers.{IsFreeNumber}
 use Rattle.overlay.specs.Live.{AreWhole, IsOfPin}
 use Rattle.overlay.specs.Behind.{IsStill}
@@ -52,13 +52,13 @@ over_put change page bytes world number = elim (cases_eq number page) [
 
 -- which pages are its own then
 pub has_put : (change : Change) (page : ℕ) (bytes : List ℕ) (number : ℕ)
-    → has_own (with_own change page bytes) number ≡ (has_own change number || eqb number page)
+    → has_own_image (with_own change page bytes) number ≡ (has_own_image change number || eqb number page)
 has_put change page bytes number = elim (cases_eq number page) [
   | inl same ↦
       rw (eq-eqb number page same)
-      (subst (λ (n : ℕ). has_own (with_own change page bytes) n ≡ true) (sym same) (ap is_some (own_put change page bytes))
-      ∙ or_true (has_own change number))
-  | inr apart ↦ rw (ne_eqb number page apart) (ap is_some (own_other change page bytes number apart) ∙ or_false (has_own change number))
+      (subst (λ (n : ℕ). has_own_image (with_own change page bytes) n ≡ true) (sym same) (ap is_some (own_put change page bytes))
+      ∙ or_true (has_own_image change number))
+  | inr apart ↦ rw (ne_eqb number page apart) (ap is_some (own_other change page bytes number apart) ∙ or_false (has_own_image change number))
 ]
   where
     or_true : (b : Bool) → true ≡ (b || true)
@@ -70,8 +70,8 @@ has_put change page bytes number = elim (cases_eq number page) [
     or_false false = refl
 
 -- none that was is forgotten
-pub has_still : (change : Change) (page : ℕ) (bytes : List ℕ) (number : ℕ) → has_own change number ≡ true
-    → has_own (with_own change page bytes) number ≡ true
+pub has_still : (change : Change) (page : ℕ) (bytes : List ℕ) (number : ℕ) → has_own_image change number ≡ true
+    → has_own_image (with_own change page bytes) number ≡ true
 has_still change page bytes number has = has_put change page bytes number ∙ ap (λ (b : Bool). b || eqb number page) has
 
 -- the pages that were given up are the same
@@ -224,8 +224,8 @@ over_first overlay bytes world number some =
     ]
 
 -- which pages are its own then
-pub has_first : (overlay : OverlayState) (bytes : List ℕ) (number : ℕ) → has_own (first_in_overlay overlay bytes).change number ≡ true
-    → (has_own overlay.change number ≡ true) ⊎ (number ≡ 1)
+pub has_first : (overlay : OverlayState) (bytes : List ℕ) (number : ℕ) → has_own_image (first_in_overlay overlay bytes).change number ≡ true
+    → (has_own_image overlay.change number ≡ true) ⊎ (number ≡ 1)
 has_first overlay bytes number has = elim (cases_eq number 1) [
   | inl same ↦ inr same
   | inr apart ↦ inl (elim (cases_lt overlay.change.base number) [
@@ -236,8 +236,8 @@ has_first overlay bytes number has = elim (cases_eq number 1) [
   ])
 ]
 
-pub first_keeps : (overlay : OverlayState) (bytes : List ℕ) (number : ℕ) → has_own overlay.change number ≡ true
-    → has_own (first_in_overlay overlay bytes).change number ≡ true
+pub first_keeps : (overlay : OverlayState) (bytes : List ℕ) (number : ℕ) → has_own_image overlay.change number ≡ true
+    → has_own_image (first_in_overlay overlay bytes).change number ≡ true
 first_keeps overlay bytes number has = elim (cases_lt overlay.change.base number) [
   | inl above ↦ rw (lt-ltb overlay.change.base number above) (rw (lt-ltb overlay.change.base number above) at has)
   | inr under ↦
@@ -257,7 +257,7 @@ pub over_made : (change : Change) (size : ℕ) (world : View) (number : ℕ) →
 over_made change size world number apart = ap (λ held. unwrap_or held (world number)) (own_made change size number apart)
 
 -- none that was its own is forgotten
-pub has_made : (change : Change) (size number : ℕ) → has_own change number ≡ true → has_own (with_new change size) number ≡ true
+pub has_made : (change : Change) (size number : ℕ) → has_own_image change number ≡ true → has_own_image (with_new change size) number ≡ true
 has_made change size number has = elim (cases_eq number (last_page change + 1)) [
   | inl same ↦
       (let past : change.base < number = omega (arith, same) in
@@ -269,7 +269,7 @@ has_made change size number has = elim (cases_eq number (last_page change + 1)) 
 
 module _ (change : Change) (size : ℕ) (last : last_page (with_new change size) ≡ last_page change + 1) where
   -- what is its own was so, or is the new page
-  pub has_before : (number : ℕ) → has_own (with_new change size) number ≡ true → (has_own change number ≡ true) ⊎ (number ≡ last_page change + 1)
+  pub has_before : (number : ℕ) → has_own_image (with_new change size) number ≡ true → (has_own_image change number ≡ true) ⊎ (number ≡ last_page change + 1)
   has_before number has = elim (cases_eq number (last_page change + 1)) [
     | inl same ↦ inr same
     | inr apart ↦ inl (sym (ap is_some (own_made change size number apart)) ∙ has)

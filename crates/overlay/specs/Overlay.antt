@@ -45,8 +45,8 @@ abbrev pub own_image : Change → ℕ → Option (List ℕ)
 own_image change number = if nat_lt change.base number then image_of change.fresh number else image_of change.changed number
 
 -- whether a page was changed or made
-abbrev pub has_own : Change → ℕ → Bool
-has_own change number = is_some (own_image change number)
+abbrev pub has_own_image : Change → ℕ → Bool
+has_own_image change number = is_some (own_image change number)
 
 -- what stands over a world
 abbrev pub over_change : Change → View → View

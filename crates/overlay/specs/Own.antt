@@ -8,7 +8,7 @@ use Rattle.engine_spec.specs.declared.commits.FetchFault.{FetchFault}
 use Rattle.engine_spec.specs.PageSet.{with_page}
 use Rattle.page_face.specs.declared.engine_tells.EngineTells.{Ghosts}
 use Rattle.page_face.specs.Pages.{IsFromOutside, BarsFresh}
-use Rattle.overlay.specs.Overlay.{OverlayState, has_own, over_change, last_page}
+use Rattle.overlay.specs.Overlay.{OverlayState, has_own_image, over_change, last_page}
 use Rattle.overlay.specs.FreeNumbers.{count_field, IsNamedList}
 use Rattle.overlay.specs.Live.{MayBeRead, IsOfPin}
 use Rattle.overlay.specs.Behind.{WasRead, IsStill}
@@ -18,7 +18,7 @@ pub record HasFetchedOwn {E M : Type 0} (told : Ghosts E M) (engine : E) (pin : 
     (result : Result Unit FetchFault) (bytes : List ℕ) (engine_then : E) (overlay_then : OverlayState) : Type 0 where
   pub page_is : OnOk result ((world : View) → MayBeRead (told.map_at engine_then pin) overlay_then.reads world
       → bytes ≡ over_change overlay.change world page)
-  pub read : OnOk result (overlay_then.reads ≡ if has_own overlay.change page then overlay.reads else with_page overlay.reads page)
+  pub read : OnOk result (overlay_then.reads ≡ if has_own_image overlay.change page then overlay.reads else with_page overlay.reads page)
   pub unread : OnErr result (overlay_then.reads ≡ overlay.reads)
   pub cause : IfErr result (λ why. IsFromOutside (told.state engine).faults (told.state engine_then).faults why)
   pub same : overlay_then ≡ record overlay { reads = overlay_then.reads }
@@ -39,7 +39,7 @@ pub record TakesNamed (usable trunk page : ℕ) (view view_then : View) : Type 0
 pub record ChangesOwn {E M : Type 0} (told : Ghosts E M) (engine : E) (pin : Pin) (overlay : OverlayState) (engine_then : E) (overlay_then : OverlayState) : Type 0 where
   pub last : last_page overlay_then.change ≡ last_page overlay.change
   pub freed : overlay_then.change.freed ≡ overlay.change.freed
-  pub has : (number : ℕ) → has_own overlay.change number ≡ true → has_own overlay_then.change number ≡ true
+  pub has : (number : ℕ) → has_own_image overlay.change number ≡ true → has_own_image overlay_then.change number ≡ true
   pub reads : (number : ℕ) → Contains overlay.reads number → Contains overlay_then.reads number
   pub narrows : (world : View) → MayBeRead (told.map_at engine_then pin) overlay_then.reads world → MayBeRead (told.map_at engine pin) overlay.reads world
   pub ready : IsOfPin told engine_then pin overlay_then
@@ -60,6 +60,6 @@ pub record HasTakenOwn {E M : Type 0} (told : Ghosts E M) (engine : E) (pin : Pi
       → IsFromOutside (told.state engine).faults (told.state engine_then).faults why)
   pub back : OnErr result ((world : View) → MayBeRead (told.map_at engine_then pin) overlay_then.reads world
       → (number : ℕ) → over_change overlay_then.change world number ≡ over_change overlay.change world number)
-  pub changed : (number : ℕ) → has_own overlay_then.change number ≡ true → (has_own overlay.change number ≡ true) ⊎ (number ≡ trunk)
+  pub changed : (number : ℕ) → has_own_image overlay_then.change number ≡ true → (has_own_image overlay.change number ≡ true) ⊎ (number ≡ trunk)
   pub read : (number : ℕ) → Contains overlay_then.reads number → Contains overlay.reads number ⊎ (number ≡ trunk)
   pub leaves : ChangesOwn told engine pin overlay engine_then overlay_then

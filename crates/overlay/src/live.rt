@@ -25,7 +25,7 @@ pub struct Live<'a, 'b, 'c, M, E> {
 
 impl<'a, 'b, 'c, M: Means, E: Engine<M>> PagesTells for Live<'a, 'b, 'c, M, E> {
     ghost use Rattle.std.proofs.Common.{refl, ◌∙◌};
-    ghost use Rattle.overlay.specs.Overlay.{last_page, has_own, over_change};
+    ghost use Rattle.overlay.specs.Overlay.{last_page, has_own_image, over_change};
     ghost use Rattle.overlay.specs.Live.{MayBeRead, IsOfPin};
     ghost use Rattle.overlay.specs.FreeNumbers.{IsFreeOver, IsNeatOver, SparesOver};
     ghost use Rattle.overlay.specs.Behind.{WasRead, IsStill};
@@ -49,7 +49,7 @@ impl<'a, 'b, 'c, M: Means, E: Engine<M>> PagesTells for Live<'a, 'b, 'c, M, E> {
 
     ghost last_page = { λ live. last_page live.overlay.now.change };
 
-    ghost has = { λ live number. has_own live.overlay.now.change number };
+    ghost has = { λ live number. has_own_image live.overlay.now.change number };
 
     ghost reads = { λ live. live.overlay.now.reads };
 

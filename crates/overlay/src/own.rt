@@ -46,7 +46,7 @@ pub(crate) struct OwnPages<'a, 'b, 'c, M, E> {
 
 impl<'a, 'b, 'c, M: Means, E: Engine<M>> PagesTells for OwnPages<'a, 'b, 'c, M, E> {
     ghost use Rattle.std.proofs.Common.{refl, ◌∙◌};
-    ghost use Rattle.overlay.specs.Overlay.{last_page, has_own, over_change};
+    ghost use Rattle.overlay.specs.Overlay.{last_page, has_own_image, over_change};
     ghost use Rattle.overlay.specs.Live.{MayBeRead, IsOfPin};
     ghost use Rattle.overlay.specs.Behind.{WasRead, IsStill};
     ghost use Rattle.overlay.specs.BehindLaws.{was_read_itself, was_read_on, still_itself, still_on};
@@ -69,7 +69,7 @@ impl<'a, 'b, 'c, M: Means, E: Engine<M>> PagesTells for OwnPages<'a, 'b, 'c, M, 
 
     ghost last_page = { λ own. last_page own.overlay.now.change };
 
-    ghost has = { λ own number. has_own own.overlay.now.change number };
+    ghost has = { λ own number. has_own_image own.overlay.now.change number };
 
     ghost reads = { λ own. own.overlay.now.reads };
 

@@ -3,7 +3,7 @@ use Rattle.std.specs.Prelude.{Contains}
 use Rattle.page_spec.specs.Header.{database_limit}
 use Rattle.page_spec.specs.View.{but_freelist}
 use Rattle.page_face.proofs.PageLaws.{free_same}
-use Rattle.overlay.specs.Overlay.{OverlayState, has_own, over_change, last_page, with_new}
+use Rattle.overlay.specs.Overlay.{OverlayState, has_own_image, over_change, last_page, with_new}
 use Rattle.overlay.specs.FreeNumbers.{greatest_page, IsFreeOver, IsNeatOver, SparesOver}
 use Rattle.overlay.specs.Live.{MayBeRead, IsOfPin}
 use Rattle.overlay.specs.Behind.{IsStill}
@@ -85,7 +85,7 @@ returns-in-Ok g c =
             };
       };
       barred = tt;
-      changed = λ world may neat number has. elim (has_before old.change size last number (sym (ap (λ (o : OverlayState). has_own o.change number) is) ∙ has)) [
+      changed = λ world may neat number has. elim (has_before old.change size last number (sym (ap (λ (o : OverlayState). has_own_image o.change number) is) ∙ has)) [
         | inl was ↦ inl was
         | inr same ↦ inr (inl (inl (inl (omega (arith, same), omega (arith, same, page_is, few)))))
       ];
@@ -93,7 +93,7 @@ returns-in-Ok g c =
       edits = record {
         narrows = λ world. rw reads (λ may. may);
         last = omega (arith, c.in-Ok.ensures.last, page_is);
-        has = λ number has. ap (λ (o : OverlayState). has_own o.change number) is ∙ has_made old.change size number has;
+        has = λ number has. ap (λ (o : OverlayState). has_own_image o.change number) is ∙ has_made old.change size number has;
         reads = λ number there. rw reads there;
         ready = subst (λ (o : OverlayState). IsOfPin told live.engine.now live.pin.now o) (sym is)
             (subst (λ (n : ℕ). IsOfPin told live.engine.now live.pin.now (record old { change = with_new old.change n })) (sym c.page_size-size.ensures)
@@ -130,12 +130,12 @@ returns-in-Err g c =
           list = record { stay = kept.stay; none_more = kept.none_more; neat = kept.neat; spare = kept.spare; no_more_spare = kept.no_more_spare };
         };
       };
-      changed = λ world may neat number has. inl (sym (ap (λ (o : OverlayState). has_own o.change number) is) ∙ has);
+      changed = λ world may neat number has. inl (sym (ap (λ (o : OverlayState). has_own_image o.change number) is) ∙ has);
       read = λ world may neat number there. inl (subst (λ (set : List ℕ). Contains set number) reads there);
       edits = record {
         narrows = λ world. rw reads (λ may. may);
         last = omega (arith, last);
-        has = λ number has. ap (λ (o : OverlayState). has_own o.change number) is ∙ has;
+        has = λ number has. ap (λ (o : OverlayState). has_own_image o.change number) is ∙ has;
         reads = λ number there. rw reads there;
         ready = subst (λ (o : OverlayState). IsOfPin told live.engine.now live.pin.now o) (sym is) c.requires.ready;
         page_size = refl;

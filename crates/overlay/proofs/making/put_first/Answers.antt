@@ -3,7 +3,7 @@ use Rattle.std.specs.Prelude.{Contains}
 use Rattle.page_spec.specs.Bytes.{u32_at}
 use Rattle.page_spec.specs.View.{View}
 use Rattle.engine_spec.specs.declared.commits.Mode.{Mode}
-use Rattle.overlay.specs.Overlay.{OverlayState, has_own, over_change, last_page, first_in_overlay}
+use Rattle.overlay.specs.Overlay.{OverlayState, has_own_image, over_change, last_page, first_in_overlay}
 use Rattle.overlay.specs.FreeNumbers.{count_field, HasListed}
 use Rattle.overlay.specs.Live.{MayBeRead, IsOfPin}
 use Rattle.overlay.specs.Behind.{IsStill}
@@ -56,7 +56,7 @@ returns-in-Ok-clause-ready g c =
             list = record { stay = kept.stay; none_more = kept.none_more; neat = kept.neat; spare = kept.spare; no_more_spare = kept.no_more_spare };
           };
       last = last;
-      has = λ world may neat number has. elim (has_first old first number (sym (ap (λ (o : OverlayState). has_own o.change number) is) ∙ has)) [
+      has = λ world may neat number has. elim (has_first old first number (sym (ap (λ (o : OverlayState). has_own_image o.change number) is) ∙ has)) [
         | inl was ↦ inl was
         | inr same ↦
             inr (inr (
@@ -69,7 +69,7 @@ returns-in-Ok-clause-ready g c =
       edits = record {
         narrows = λ world. rw reads (λ may. may);
         last = omega (arith, last);
-        has = λ number has. ap (λ (o : OverlayState). has_own o.change number) is ∙ first_keeps old first number has;
+        has = λ number has. ap (λ (o : OverlayState). has_own_image o.change number) is ∙ first_keeps old first number has;
         reads = λ number there. rw reads there;
         ready = subst (λ (o : OverlayState). IsOfPin told live.engine.now live.pin.now o) (sym is)
             (of_pin_first told live.engine.now live.pin.now old c.requires.ready first c.requires.whole);
@@ -97,12 +97,12 @@ returns-in-Err-clause-ready g c =
         list = record { stay = kept.stay; none_more = kept.none_more; neat = kept.neat; spare = kept.spare; no_more_spare = kept.no_more_spare };
       };
       last = last;
-      has = λ world may neat number has. inl (sym (ap (λ (o : OverlayState). has_own o.change number) is) ∙ has);
+      has = λ world may neat number has. inl (sym (ap (λ (o : OverlayState). has_own_image o.change number) is) ∙ has);
       read = λ number there. subst (λ (set : List ℕ). Contains set number) reads there;
       edits = record {
         narrows = λ world. rw reads (λ may. may);
         last = omega (arith, last);
-        has = λ number has. ap (λ (o : OverlayState). has_own o.change number) is ∙ has;
+        has = λ number has. ap (λ (o : OverlayState). has_own_image o.change number) is ∙ has;
         reads = λ number there. rw reads there;
         ready = subst (λ (o : OverlayState). IsOfPin told live.engine.now live.pin.now o) (sym is) c.requires.ready;
         page_size = refl;

@@ -5,7 +5,7 @@ use Rattle.page_spec.specs.View.{View}
 use Rattle.page_spec.proofs.BytesLaws.{u32_at-below, differs-trans}
 use Rattle.engine_spec.specs.declared.pins.Pin.{Pin}
 use Rattle.tree_spec.specs.Freelist.{IsFreelist}
-use Rattle.overlay.specs.Overlay.{OverlayState, has_own, over_change, last_page, first_in_overlay}
+use Rattle.overlay.specs.Overlay.{OverlayState, has_own_image, over_change, last_page, first_in_overlay}
 use Rattle.overlay.specs.FreeNumbers.{trunk_field, count_field}
 use Rattle.overlay.specs.Live.{MayBeRead, IsOfPin}
 use Rattle.overlay.specs.Own.{ChangesOwn, HasTakenOwn}
@@ -97,7 +97,7 @@ returns-in-Ok-Some-clause-taken g c =
       back = tt;
       changed = λ number has. elim (has_first mid bytes number has) [
         | inl was ↦ took.has number was
-        | inr is_first ↦ inl (subst (λ (n : ℕ). has_own old.change n ≡ true) (sym is_first) (ap is_some named.own))
+        | inr is_first ↦ inl (subst (λ (n : ℕ). has_own_image old.change n ≡ true) (sym is_first) (ap is_some named.own))
       ];
       read = took.read;
       leaves = changes_first told own.engine.now own_then.engine.now own.pin.now old mid bytes whole_then leaves;

@@ -1,6 +1,6 @@
 use Rattle.std.proofs.Common.{◌≡◌, ◌∙◌, ℕ, List, refl, sym, subst, ap, inl, arith}
 use Rattle.std.specs.Prelude.{Contains}
-use Rattle.overlay.specs.Overlay.{OverlayState, has_own, over_change, last_page}
+use Rattle.overlay.specs.Overlay.{OverlayState, has_own_image, over_change, last_page}
 use Rattle.overlay.specs.FreeNumbers.{IsFreeOver, IsNeatOver, SparesOver}
 use Rattle.overlay.specs.Live.{IsOfPin}
 use Rattle.overlay.specs.Behind.{IsStill}
@@ -35,12 +35,12 @@ returns-in-Ok g c =
       refused = tt;
       cause = tt;
       last = last;
-      changed = λ world may neat number has. inl (sym (ap (λ (o : OverlayState). has_own o.change number) is) ∙ has);
+      changed = λ world may neat number has. inl (sym (ap (λ (o : OverlayState). has_own_image o.change number) is) ∙ has);
       read = λ world may neat number there. inl (subst (λ (set : List ℕ). Contains set number) reads there);
       edits = record {
         narrows = λ world. rw reads (λ may. may);
         last = omega (arith, last);
-        has = λ number has. ap (λ (o : OverlayState). has_own o.change number) is ∙ has;
+        has = λ number has. ap (λ (o : OverlayState). has_own_image o.change number) is ∙ has;
         reads = λ number there. rw reads there;
         ready = subst (λ (o : OverlayState). IsOfPin told live.engine.now live.pin.now o) (sym is)
             (of_pin_freed told live.engine.now live.pin.now old c.requires.ready page);
@@ -73,12 +73,12 @@ returns-in-Err g c =
       };
       cause = tt;
       last = last;
-      changed = λ world may neat number has. inl (sym (ap (λ (o : OverlayState). has_own o.change number) is) ∙ has);
+      changed = λ world may neat number has. inl (sym (ap (λ (o : OverlayState). has_own_image o.change number) is) ∙ has);
       read = λ world may neat number there. inl (subst (λ (set : List ℕ). Contains set number) reads there);
       edits = record {
         narrows = λ world. rw reads (λ may. may);
         last = omega (arith, last);
-        has = λ number has. ap (λ (o : OverlayState). has_own o.change number) is ∙ has;
+        has = λ number has. ap (λ (o : OverlayState). has_own_image o.change number) is ∙ has;
         reads = λ number there. rw reads there;
         ready = subst (λ (o : OverlayState). IsOfPin told live.engine.now live.pin.now o) (sym is) c.requires.ready;
         page_size = refl;

@@ -1,5 +1,5 @@
 use Rattle.std.proofs.Common.{◌≡◌, ◌∙◌, refl, sym, subst, ap, arith}
-use Rattle.overlay.specs.Overlay.{OverlayState, has_own, over_change, last_page, with_own}
+use Rattle.overlay.specs.Overlay.{OverlayState, has_own_image, over_change, last_page, with_own}
 use Rattle.overlay.specs.Live.{IsOfPin}
 use Rattle.overlay.specs.Behind.{IsStill}
 use Rattle.overlay.specs.BehindLaws.{was_read_itself, still_itself}
@@ -28,7 +28,7 @@ returns-in-Ok g c =
             (keeps_put usable old.change page bytes world last used neat fields) in
             record { stay = kept.stay; none_more = kept.none_more; neat = kept.neat; spare = kept.spare; no_more_spare = kept.no_more_spare };
       };
-      has = λ number. ap (λ (o : OverlayState). has_own o.change number) is ∙ has_put old.change page bytes number;
+      has = λ number. ap (λ (o : OverlayState). has_own_image o.change number) is ∙ has_put old.change page bytes number;
       refused = tt;
       cause = tt;
       tells = λ world. (rw reads (λ may. may), rw reads (λ may. may));
@@ -37,7 +37,7 @@ returns-in-Ok g c =
       edits = record {
         narrows = λ world. rw reads (λ may. may);
         last = (let same = c.put.ensures.last in omega arith);
-        has = λ number has. ap (λ (o : OverlayState). has_own o.change number) is ∙ has_still old.change page bytes number has;
+        has = λ number has. ap (λ (o : OverlayState). has_own_image o.change number) is ∙ has_still old.change page bytes number has;
         reads = λ number there. rw reads there;
         ready = subst (λ (o : OverlayState). IsOfPin told live.engine.now live.pin.now o) (sym is)
             (of_pin_put told live.engine.now live.pin.now old c.requires.ready page bytes c.requires.whole);
@@ -67,11 +67,11 @@ returns-in-Err g c =
           list = record { stay = kept.stay; none_more = kept.none_more; neat = kept.neat; spare = kept.spare; no_more_spare = kept.no_more_spare };
         };
         last = last;
-        has = λ number. ap (λ (o : OverlayState). has_own o.change number) is;
+        has = λ number. ap (λ (o : OverlayState). has_own_image o.change number) is;
         edits = record {
           narrows = λ world. rw reads (λ may. may);
           last = omega (arith, last);
-          has = λ number has. ap (λ (o : OverlayState). has_own o.change number) is ∙ has;
+          has = λ number has. ap (λ (o : OverlayState). has_own_image o.change number) is ∙ has;
           reads = λ number there. rw reads there;
           ready = subst (λ (o : OverlayState). IsOfPin told live.engine.now live.pin.now o) (sym is) c.requires.ready;
           page_size = refl;
@@ -88,7 +88,7 @@ returns-in-Err g c =
       edits = record {
         narrows = λ world. rw reads (λ may. may);
         last = omega (arith, last);
-        has = λ number has. ap (λ (o : OverlayState). has_own o.change number) is ∙ has;
+        has = λ number has. ap (λ (o : OverlayState). has_own_image o.change number) is ∙ has;
         reads = λ number there. rw reads there;
         ready = subst (λ (o : OverlayState). IsOfPin told live.engine.now live.pin.now o) (sym is) c.requires.ready;
         page_size = refl;

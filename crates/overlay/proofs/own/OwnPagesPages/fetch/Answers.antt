@@ -1,6 +1,6 @@
 use Rattle.std.proofs.Common.{◌≡◌, ℕ, List, ◌∷◌, refl, sym, subst, ap, arith, ◌∙◌}
 use Rattle.engine_spec.specs.Change.{Change}
-use Rattle.overlay.specs.Overlay.{OverlayState, has_own, over_change, last_page}
+use Rattle.overlay.specs.Overlay.{OverlayState, has_own_image, over_change, last_page}
 use Rattle.overlay.specs.Live.{IsOfPin}
 use Rattle.overlay.specs.Behind.{IsStill}
 use Rattle.overlay.specs.BehindLaws.{still_noted}
@@ -29,11 +29,11 @@ returns g c =
           list = record { stay = λ number never. never; none_more = λ number never. never; neat = λ neat. neat; spare = λ never. never; no_more_spare = λ never. never };
         };
         last = last;
-        has = λ number. ap (λ (now : Change). has_own now number) change;
+        has = λ number. ap (λ (now : Change). has_own_image now number) change;
         edits = record {
           narrows = own.narrows;
           last = omega (arith, last);
-          has = λ number has. ap (λ (now : Change). has_own now number) change ∙ has;
+          has = λ number has. ap (λ (now : Change). has_own_image now number) change ∙ has;
           reads = own.kept;
           ready = subst (IsOfPin told engine_then live.pin.now) (sym own.same)
               (of_pin_noted told engine_then live.pin.now old overlay_then.reads

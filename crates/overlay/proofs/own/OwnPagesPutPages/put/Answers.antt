@@ -1,5 +1,5 @@
 use Rattle.std.proofs.Common.{◌≡◌, ◌∙◌, refl, sym, subst, ap, arith}
-use Rattle.overlay.specs.Overlay.{OverlayState, has_own, over_change, last_page, with_own}
+use Rattle.overlay.specs.Overlay.{OverlayState, has_own_image, over_change, last_page, with_own}
 use Rattle.overlay.specs.Live.{IsOfPin}
 use Rattle.overlay.specs.Behind.{IsStill}
 use Rattle.overlay.specs.BehindLaws.{was_read_itself, still_itself}
@@ -22,7 +22,7 @@ returns-in-Ok g c =
         each = λ number. ap (λ (o : OverlayState). over_change o.change world number) is ∙ over_put old.change page bytes world number;
         list = λ used neat fields. record { stay = λ number never. never; none_more = λ number never. never; neat = λ neat. neat; spare = λ never. never; no_more_spare = λ never. never };
       };
-      has = λ number. ap (λ (o : OverlayState). has_own o.change number) is ∙ has_put old.change page bytes number;
+      has = λ number. ap (λ (o : OverlayState). has_own_image o.change number) is ∙ has_put old.change page bytes number;
       refused = tt;
       cause = tt;
       tells = λ world. (rw reads (λ may. may), rw reads (λ may. may));
@@ -31,7 +31,7 @@ returns-in-Ok g c =
       edits = record {
         narrows = λ world. rw reads (λ may. may);
         last = (let same = c.put.ensures.last in omega arith);
-        has = λ number has. ap (λ (o : OverlayState). has_own o.change number) is ∙ has_still old.change page bytes number has;
+        has = λ number has. ap (λ (o : OverlayState). has_own_image o.change number) is ∙ has_still old.change page bytes number has;
         reads = λ number there. rw reads there;
         ready = subst (λ (o : OverlayState). IsOfPin told live.engine.now live.pin.now o) (sym is)
             (of_pin_put told live.engine.now live.pin.now old c.requires.ready page bytes c.requires.whole);
@@ -60,11 +60,11 @@ returns-in-Err g c =
           list = record { stay = λ number never. never; none_more = λ number never. never; neat = λ neat. neat; spare = λ never. never; no_more_spare = λ never. never };
         };
         last = last;
-        has = λ number. ap (λ (o : OverlayState). has_own o.change number) is;
+        has = λ number. ap (λ (o : OverlayState). has_own_image o.change number) is;
         edits = record {
           narrows = λ world. rw reads (λ may. may);
           last = omega (arith, last);
-          has = λ number has. ap (λ (o : OverlayState). has_own o.change number) is ∙ has;
+          has = λ number has. ap (λ (o : OverlayState). has_own_image o.change number) is ∙ has;
           reads = λ number there. rw reads there;
           ready = subst (λ (o : OverlayState). IsOfPin told live.engine.now live.pin.now o) (sym is) c.requires.ready;
           page_size = refl;
@@ -81,7 +81,7 @@ returns-in-Err g c =
       edits = record {
         narrows = λ world. rw reads (λ may. may);
         last = omega (arith, last);
-        has = λ number has. ap (λ (o : OverlayState). has_own o.change number) is ∙ has;
+        has = λ number has. ap (λ (o : OverlayState). has_own_image o.change number) is ∙ has;
         reads = λ number there. rw reads there;
         ready = subst (λ (o : OverlayState). IsOfPin told live.engine.now live.pin.now o) (sym is) c.requires.ready;
         page_size = refl;
