@@ -47,11 +47,16 @@ pub struct Shared<M> {
 }
 
 impl<M: Means> Shared<M> {
-    /// A view of an engine without commits.
+    ghost use Rattle.witnesses.specs.Shared.{shared_state, shared_map, viewed};
+
+    /// A view of an engine without commits. Nothing waits, no commit is of others, and the maps are the engine's.
     pub fn new(alloc: Global, plain: Plain<M>) -> Shared<M>
         requires live { PlainLive plain [] }
         requires history { plain.history ≡ [] }
         ensures live { SharedLive result [] }
+        ensures state { shared_state result ≡ viewed [] 0 0 (state_of plain) }
+        ensures maps { (pin : PinValue) → shared_map result pin ≡ plain_map plain pin }
+        ensures waits { result.waiting ≡ Option.None }
         ensures barred { result.barred ≡ false }
         ensures runs { (first : PageMap) → PlainRuns (M.sound first) (M.leads first) first plain
             → SharedRuns (M.sound first) (M.leads first) first result }
@@ -65,6 +70,13 @@ impl<M: Means> Shared<M> {
             readers: 0,
             barred: false,
         }
+    }
+
+    /// Whether no transaction may begin: one began, and neither ended nor was handed over.
+    pub fn is_barred(&self) -> bool
+        ensures { result ≡ self.now.barred }
+    {
+        self.barred
     }
 
     // Others commit what waits, where there is memory for it and nothing bars it.
@@ -247,14 +259,18 @@ impl<M: Means> Engine<M> for Shared<M> {
 }
 
 impl<M: Means> Shared<M> {
+    ghost use Rattle.witnesses.specs.Shared.{shared_state, shared_map};
+
     /// Hands the owner's transaction over to others, with its pin. It is good for each run for which the view stands, as a commit
-    /// of another view has to be. What waited before never becomes a commit.
+    /// of another view has to be. What waited before never becomes a commit. What the view tells stays, and so do its maps.
     pub fn hand_over(&mut self, pin: Pin, prepared: Prepared<M>, who: Who)
         requires live { IsLive SharedLive self.old pin }
         requires fit { IsFit (state_of self.old.plain) pin prepared }
         requires good { (first : PageMap) → SharedRuns (M.sound first) (M.leads first) first self.old
             → IfSome (plain_map self.old.plain pin) (λ snapshot. IsGood (M.sound first) (M.leads first) snapshot prepared) }
         ensures live { (before after : List PinValue) → SharedLive self.old (before ++ pin ∷ after) → SharedLive self.new (before ++ after) }
+        ensures state { shared_state self.new ≡ shared_state self.old }
+        ensures maps { (other : PinValue) → shared_map self.new other ≡ shared_map self.old other }
         ensures waits { self.new.waiting ≡ Option.Some (record { pin = pin; prepared = prepared; who = who }) }
         ensures barred { self.new.barred ≡ false }
         ensures runs { (first : PageMap) → SharedRuns (M.sound first) (M.leads first) first self.old

@@ -1,5 +1,5 @@
 // Pages in memory that may be changed, made and given up: they show that `EditPages` can be met.
-ghost use Rattle.std.specs.Prelude.{◌≡◌, ℕ, ◌-◌, ◌^◌, ◌<◌, ◌≤◌, ◌⊎◌, true, [], length, Contains, All, IfOk};
+ghost use Rattle.std.specs.Prelude.{◌≡◌, ℕ, ◌-◌, ◌^◌, ◌<◌, ◌≤◌, ◌⊎◌, true, [], ◌∷◌, length, replicate, Contains, All, IfOk};
 ghost use Rattle.page_spec.specs.PageMap.{page_at};
 
 use disk_face::Bytes;
@@ -20,9 +20,10 @@ pub struct Shelf {
 }
 
 impl Shelf {
-    /// One page of zeros. The error is want of memory.
+    /// One page of zeros, of which none is given up. The error is want of memory.
     pub fn new(alloc: Global) -> Result<Shelf, AllocError>
-        ensures { IfOk result (λ shelf. length shelf.pages ≡ 1) }
+        ensures pages { IfOk result (λ shelf. shelf.pages ≡ replicate 512 0 ∷ []) }
+        ensures given { IfOk result (λ shelf. shelf.given ≡ []) }
     {
         let blank = Bytes::of(alloc, &[0; 512])?;
         let mut pages = Items::new(alloc);
