@@ -1,15 +1,12 @@
 // Files that are opened again, as they were left or after a crash, and calls that touch nothing. All is worked by hand.
-ghost use Rattle.std.specs.Prelude.{◌≡◌, true};
-
 use crate::lines::Line;
-use crate::quiet::{Quiet, filled};
+use crate::quiet::filled;
 use crate::rows::{HEADER_SYNC, PAGE, SECOND_SYNC, SWITCH, TORN_FRAME, TORN_HEADER};
-use crate::trial::{Run, opens};
+use crate::trial::{Run, opens, starts, starts_again};
 use disk_face::{Failed, File};
 use disk_mem::{Fail, MemDisk};
 use page_face::Ckpt;
 use std::alloc::{AllocError, Global};
-use std::test;
 
 /// The frames that a log takes before the next commit may go over.
 const LIMIT: u32 = 4;
@@ -105,30 +102,44 @@ fn picked(alloc: Global, disk: &MemDisk, pick: Pick) -> Result<Vec<u8>, AllocErr
     Ok(picked)
 }
 
-/// The first line of those before the crash that is answered otherwise than it says, and the first behind it.
+/// Whether the lines of a row are answered as they say, before the crash and behind it.
 #[tactic(auto, unfolding(page_spec::specs::Header::is_page_size))]
-fn wrong_of(alloc: Global, row: &Again) -> Result<[Option<usize>; 2], Failed> {
+fn is_right(alloc: Global, row: &Again) -> bool {
     let (lines, failing, pick, after) = *row;
-    let disk = Quiet::empty(alloc, failing)?;
-    let Ok(run) = opens(alloc, disk, PAGE, LIMIT, lines) else {
-        return Err(Failed);
-    };
-    let Ok(pick) = picked(alloc, &run.disk.disk, pick) else {
-        return Err(Failed);
-    };
-    let left = run.disk.crashed(&pick)?;
-    match opens(alloc, left, PAGE, LIMIT, after) {
-        Ok(again) => Ok([run.first_wrong(lines), again.first_wrong(after)]),
-        Err(_) => Err(Failed),
+    match starts(alloc, failing, PAGE, LIMIT, lines) {
+        Ok(run) => run.first_wrong(lines).is_none() && goes_on(alloc, &run, pick, after),
+        Err(_) => false,
     }
 }
 
-#[test]
-fn what_a_crash_leaves_is_opened_again(rt: HostRuntime) -> Result<(), test::Fail> {
-    for row in AGAIN {
-        assert_eq!(rt; wrong_of(rt.alloc(), row), Ok([None, None]));
+fn goes_on(alloc: Global, run: &Run, pick: Pick, after: &[Line]) -> bool {
+    match picked(alloc, &run.disk.disk, pick) {
+        Ok(pick) => answers_after(alloc, run, &pick, after),
+        Err(_) => false,
     }
-    Ok(())
+}
+
+#[tactic(auto, unfolding(page_spec::specs::Header::is_page_size))]
+fn answers_after(alloc: Global, run: &Run, pick: &[u8], after: &[Line]) -> bool {
+    match starts_again(alloc, run, pick, PAGE, LIMIT, after) {
+        Ok(again) => again.first_wrong(after).is_none(),
+        Err(_) => false,
+    }
+}
+
+/// The place of the first row that isn't right.
+fn first_wrong_row(alloc: Global) -> Option<usize> {
+    for at in 0..AGAIN.len() {
+        if !is_right(alloc, &AGAIN[at]) {
+            return Some(at);
+        }
+    }
+    None
+}
+
+#[test]
+fn what_a_crash_leaves_is_opened_again(rt: HostRuntime) {
+    assert_eq!(rt; first_wrong_row(rt.alloc()), None);
 }
 
 /// Whether a page of Main has this byte alone.
@@ -156,43 +167,63 @@ fn word_at(main: &[u8], at: usize) -> [u8; 4] {
 /// Main after a run and another opening.
 #[tactic(auto, unfolding(page_spec::specs::Header::is_page_size))]
 fn settled(alloc: Global) -> Result<Run, Failed> {
-    let disk = Quiet::empty(alloc, None)?;
-    let Ok(run) = opens(alloc, disk, PAGE, LIMIT, SWITCH) else {
-        return Err(Failed);
-    };
+    let run = starts(alloc, None, PAGE, LIMIT, SWITCH)?;
     match opens(alloc, run.disk, PAGE, LIMIT, &[]) {
         Ok(again) => Ok(again),
         Err(_) => Err(Failed),
     }
 }
 
-#[test]
-fn main_alone_is_the_map_once_it_is_opened_again(rt: HostRuntime) -> Result<(), test::Fail> {
-    let run = settled(rt.alloc())?;
+/// A new store counts one change, and each commit one more.
+fn has_counts(main: &[u8]) -> bool {
+    main.len() == 65_536
+        && word_at(main, 24) == [0, 0, 0, 4]
+        && word_at(main, 28) == [0, 0, 0, 16]
+        && word_at(main, 92) == [0, 0, 0, 4]
+}
+
+fn has_pages(main: &[u8]) -> bool {
+    is_filled(main, 2, 7) && is_filled(main, 3, 8) && is_filled(main, 4, 9) && is_filled(main, 5, 0)
+}
+
+fn is_settled(run: &Run) -> bool {
     let main = run.disk.disk.file(File::Main);
-    assert_eq!(rt; main.len(), 65_536);
-    // A new store counts one change, and each commit one more.
-    assert_eq!(rt; word_at(main, 24), [0, 0, 0, 4]);
-    assert_eq!(rt; word_at(main, 28), [0, 0, 0, 16]);
-    assert_eq!(rt; word_at(main, 92), [0, 0, 0, 4]);
-    assert!(rt; is_filled(main, 2, 7) && is_filled(main, 3, 8));
-    assert!(rt; is_filled(main, 4, 9) && is_filled(main, 5, 0));
-    assert_eq!(rt; run.entries.len(), 0);
-    Ok(())
+    has_counts(main) && has_pages(main) && run.entries.len() == 0
+}
+
+fn settles(alloc: Global) -> bool {
+    match settled(alloc) {
+        Ok(run) => is_settled(&run),
+        Err(_) => false,
+    }
+}
+
+#[test]
+fn main_alone_is_the_map_once_it_is_opened_again(rt: HostRuntime) {
+    assert!(rt; settles(rt.alloc()));
 }
 
 /// How many calls of the disk lines take, with the opening of three empty files, where each is answered as it says.
 #[tactic(auto, unfolding(page_spec::specs::Header::is_page_size))]
-fn calls_of(alloc: Global, lines: &[Line]) -> Result<u64, Failed> {
-    let disk = Quiet::empty(alloc, None)?;
-    match opens(alloc, disk, PAGE, LIMIT, lines) {
-        Ok(run) => {
-            if run.first_wrong(lines).is_some() {
-                return Err(Failed);
-            }
-            Ok(run.disk.disk.calls())
-        }
-        Err(_) => Err(Failed),
+fn calls_of(alloc: Global, lines: &[Line]) -> Option<u64> {
+    match starts(alloc, None, PAGE, LIMIT, lines) {
+        Ok(run) => calls_in(&run, lines),
+        Err(_) => None,
+    }
+}
+
+fn calls_in(run: &Run, lines: &[Line]) -> Option<u64> {
+    match run.first_wrong(lines) {
+        None => Some(run.disk.disk.calls()),
+        Some(_) => None,
+    }
+}
+
+/// Whether both take as many.
+fn take_as_many(alloc: Global, one: &[Line], two: &[Line]) -> bool {
+    match calls_of(alloc, one) {
+        Some(calls) => calls_of(alloc, two) == Some(calls),
+        None => false,
     }
 }
 
@@ -230,18 +261,13 @@ const IDLE: &[Line] = &[
 ];
 
 #[test]
-fn what_writes_nothing_makes_no_call(rt: HostRuntime) -> Result<(), test::Fail> {
-    let opening = calls_of(rt.alloc(), &[]);
-    assert!(rt; opening.is_ok());
-    assert_eq!(rt; calls_of(rt.alloc(), IDLE), opening);
-    let before = calls_of(rt.alloc(), READ_BEFORE);
-    assert!(rt; before.is_ok());
-    assert_eq!(rt; calls_of(rt.alloc(), REFUSED), before);
-    Ok(())
+fn what_writes_nothing_makes_no_call(rt: HostRuntime) {
+    assert!(rt; take_as_many(rt.alloc(), &[], IDLE));
+    assert!(rt; take_as_many(rt.alloc(), READ_BEFORE, REFUSED));
 }
 
 /// How an opening that stops after some calls ends.
-#[derive(Clone, Copy, Debug, PartialEq, Eq)]
+#[derive(Clone, Copy)]
 enum Ends {
     /// All calls went well, and both commits stand.
     Well,
@@ -252,22 +278,39 @@ enum Ends {
 
 const BOTH: &[Line] = &[Line::Begin(1), Line::Read(1, 2, 7), Line::Read(1, 3, 8)];
 
-/// The disk on which the sync of the second commit failed is opened again without a crash. So many calls go well, and then it crashes with bytes of
-/// all ones.
+/// The disk on which the sync of the second commit failed is opened again without a crash, and so many calls go well.
 #[tactic(auto, unfolding(page_spec::specs::Header::is_page_size))]
-fn ended(alloc: Global, calls: u64) -> Result<Ends, AllocError> {
-    let Ok(disk) = Quiet::empty(alloc, SECOND_SYNC) else {
-        return Ok(Ends::Wrong);
-    };
-    let run = opens(alloc, disk, PAGE, LIMIT, TORN_FRAME)?;
+fn stopped(alloc: Global, calls: u64) -> Result<Run, Failed> {
+    let run = starts(alloc, SECOND_SYNC, PAGE, LIMIT, TORN_FRAME)?;
     let mut disk = run.disk;
     disk.disk.stop_after(calls);
-    let again = opens(alloc, disk, PAGE, LIMIT, &[])?;
-    let Ok(left) = again.disk.crashed(&filled(alloc, 255)?) else {
-        return Ok(Ends::Wrong);
-    };
-    let last = opens(alloc, left, PAGE, LIMIT, BOTH)?;
-    Ok(end_of(&again, &last))
+    match opens(alloc, disk, PAGE, LIMIT, &[]) {
+        Ok(again) => Ok(again),
+        Err(_) => Err(Failed),
+    }
+}
+
+/// Then it crashes with bytes of all ones.
+fn ended(alloc: Global, calls: u64) -> Ends {
+    match stopped(alloc, calls) {
+        Ok(again) => end_by_ones(alloc, &again),
+        Err(_) => Ends::Wrong,
+    }
+}
+
+fn end_by_ones(alloc: Global, again: &Run) -> Ends {
+    match filled(alloc, 255) {
+        Ok(ones) => end_by(alloc, again, &ones),
+        Err(_) => Ends::Wrong,
+    }
+}
+
+#[tactic(auto, unfolding(page_spec::specs::Header::is_page_size))]
+fn end_by(alloc: Global, again: &Run, pick: &[u8]) -> Ends {
+    match starts_again(alloc, again, pick, PAGE, LIMIT, BOTH) {
+        Ok(last) => end_of(again, &last),
+        Err(_) => Ends::Wrong,
+    }
 }
 
 fn end_of(again: &Run, last: &Run) -> Ends {
@@ -283,21 +326,18 @@ fn end_of(again: &Run, last: &Run) -> Ends {
 }
 
 /// Whether each opening that stops ends well, up to the first that isn't stopped.
-fn end_well(alloc: Global) -> Result<bool, AllocError> {
+fn end_well(alloc: Global) -> bool {
     for calls in 0..10_000 {
-        match ended(alloc, calls)? {
-            Ends::Well => return Ok(true),
+        match ended(alloc, calls) {
+            Ends::Well => return true,
             Ends::Stopped => {}
-            Ends::Wrong => return Ok(false),
+            Ends::Wrong => return false,
         }
     }
-    Ok(false)
+    false
 }
 
 #[test]
-fn a_commit_that_was_refused_stands_or_not_once_it_is_opened_again(
-    rt: HostRuntime,
-) -> Result<(), test::Fail> {
-    assert!(rt; end_well(rt.alloc())?);
-    Ok(())
+fn a_commit_that_was_refused_stands_or_not_once_it_is_opened_again(rt: HostRuntime) {
+    assert!(rt; end_well(rt.alloc()));
 }

@@ -2,13 +2,12 @@
 use crate::lines::Line;
 use crate::model::PlainMaps;
 use crate::quiet::{Quiet, filled};
-use crate::trial::{Run, opens};
+use crate::trial::{Run, opens, starts, starts_again};
 use disk_face::{Failed, File};
 use disk_mem::{Call, Fail};
 use page_face::Ckpt;
 use page_lines::Told;
 use std::alloc::{AllocError, Global};
-use std::test;
 use store::OpenFault;
 
 /// The bytes of a page.
@@ -154,7 +153,7 @@ const HALTS: &[(File, Call, u64, u8, u64)] = &[
 ];
 
 /// What a run shows.
-#[derive(Clone, Copy, Debug, PartialEq, Eq)]
+#[derive(Clone, Copy)]
 enum Shown {
     /// No call failed, and each line is answered as it says.
     Over,
@@ -178,64 +177,82 @@ fn any_failed(run: &Run) -> bool {
     run.disk.disk.made().iter().any(|made| made.failed)
 }
 
-/// The plain store after the answers to the script; none where one of them may not come, or the history has another length.
-fn judged(alloc: Global, run: &Run) -> Result<Option<PlainMaps>, AllocError> {
-    let mut plain = PlainMaps::new(alloc)?;
-    let right = match &run.told {
-        Ok(told) => takes_all(&mut plain, told)? && run.entries.len() == plain.commits(),
+/// Whether the answers to the script may come, and the history has the length that they tell.
+fn may_come(plain: &mut PlainMaps, run: &Run) -> bool {
+    match &run.told {
+        Ok(told) => takes_all(plain, told) && run.entries.len() == plain.commits(),
         Err(fault) => *fault == OpenFault::Disk,
-    };
-    Ok(if right { Some(plain) } else { None })
+    }
 }
 
-fn takes_all(plain: &mut PlainMaps, told: &[Told]) -> Result<bool, AllocError> {
+fn takes_all(plain: &mut PlainMaps, told: &[Told]) -> bool {
     for at in 0..SCRIPT.len() {
-        if at >= told.len() || !plain.takes(SCRIPT[at].act(), told[at])? {
-            return Ok(false);
+        if at >= told.len() || !plain.takes(SCRIPT[at].act(), told[at]) {
+            return false;
         }
     }
-    Ok(true)
+    true
 }
 
 /// Whether the files that a crash leaves with this pick are opened with a map that the plain store allows.
 #[tactic(auto, unfolding(page_spec::specs::Header::is_page_size))]
-fn recovers(alloc: Global, run: &Run, pick: &[u8], plain: &PlainMaps) -> Result<bool, AllocError> {
-    let Ok(left) = run.disk.crashed(pick) else {
-        return Ok(false);
-    };
-    let again = opens(alloc, left, PAGE, LIMIT, READS)?;
+fn recovers(alloc: Global, run: &Run, pick: &[u8], plain: &PlainMaps) -> bool {
+    match starts_again(alloc, run, pick, PAGE, LIMIT, READS) {
+        Ok(again) => allows(plain, &again),
+        Err(_) => false,
+    }
+}
+
+fn allows(plain: &PlainMaps, again: &Run) -> bool {
     match &again.told {
-        Ok(told) => Ok(plain.recovers(told)),
-        Err(_) => Ok(false),
+        Ok(told) => plain.recovers(told),
+        Err(_) => false,
+    }
+}
+
+fn recovers_by(
+    alloc: Global,
+    run: &Run,
+    pick: Result<Vec<u8>, AllocError>,
+    plain: &PlainMaps,
+) -> bool {
+    match pick {
+        Ok(pick) => recovers(alloc, run, &pick, plain),
+        Err(_) => false,
     }
 }
 
 /// The same where a crash leaves what was written, bytes of all ones, and old bytes.
-fn recovers_each(alloc: Global, run: &Run, plain: &PlainMaps) -> Result<bool, AllocError> {
-    let wild = filled(alloc, 255)?;
-    let old = run.disk.old_bytes()?;
-    Ok(
-        recovers(alloc, run, &[], plain)?
-            && recovers(alloc, run, &wild, plain)?
-            && recovers(alloc, run, &old, plain)?,
-    )
+fn recovers_each(alloc: Global, run: &Run, plain: &PlainMaps) -> bool {
+    recovers(alloc, run, &[], plain)
+        && recovers_by(alloc, run, filled(alloc, 255), plain)
+        && recovers_by(alloc, run, run.disk.old_bytes(), plain)
 }
 
-/// What the script shows where this call fails: it alone is told, and after the write or sync of a log each later commit is refused with the place.
-#[tactic(auto, unfolding(page_spec::specs::Header::is_page_size))]
-fn shows_failing(alloc: Global, fail: Fail) -> Result<Shown, AllocError> {
-    let Ok(disk) = Quiet::empty(alloc, Some(fail)) else {
-        return Ok(Shown::Wrong);
-    };
-    let run = opens(alloc, disk, PAGE, LIMIT, SCRIPT)?;
-    if !any_failed(&run) {
-        return Ok(over(&run));
+/// Whether the call that failed is told, and it alone, and after the write or sync of a log each later commit is refused with the place.
+fn tells_one(run: &Run, plain: &PlainMaps, fail: Fail) -> bool {
+    run.told.is_err() || plain.failures == 1 && plain.halt == halt_of(fail)
+}
+
+/// Whether a run in which calls failed, of which one may be named, is as it has to be.
+fn is_right(alloc: Global, run: &Run, plain: &mut PlainMaps, named: Option<Fail>) -> bool {
+    may_come(plain, run)
+        && match named {
+            Some(fail) => tells_one(run, plain, fail),
+            None => true,
+        }
+        && recovers_each(alloc, run, plain)
+}
+
+fn shown_by(right: bool) -> Shown {
+    if right { Shown::Right } else { Shown::Wrong }
+}
+
+fn judged(alloc: Global, run: &Run, named: Option<Fail>) -> Shown {
+    match PlainMaps::new(alloc) {
+        Ok(mut plain) => shown_by(is_right(alloc, run, &mut plain, named)),
+        Err(_) => Shown::Wrong,
     }
-    let Some(plain) = judged(alloc, &run)? else {
-        return Ok(Shown::Wrong);
-    };
-    let told = run.told.is_err() || (plain.failures == 1 && plain.halt == halt_of(fail));
-    Ok(shown_by(told && recovers_each(alloc, &run, &plain)?))
 }
 
 fn over(run: &Run) -> Shown {
@@ -245,86 +262,106 @@ fn over(run: &Run) -> Shown {
     }
 }
 
-fn shown_by(right: bool) -> Shown {
-    if right { Shown::Right } else { Shown::Wrong }
+fn shown_in(alloc: Global, run: &Run, named: Option<Fail>) -> Shown {
+    if any_failed(run) {
+        judged(alloc, run, named)
+    } else {
+        over(run)
+    }
+}
+
+/// What the script shows where this call fails.
+#[tactic(auto, unfolding(page_spec::specs::Header::is_page_size))]
+fn shows_failing(alloc: Global, fail: Fail) -> Shown {
+    match starts(alloc, Some(fail), PAGE, LIMIT, SCRIPT) {
+        Ok(run) => shown_in(alloc, &run, Some(fail)),
+        Err(_) => Shown::Wrong,
+    }
+}
+
+#[tactic(auto, unfolding(page_spec::specs::Header::is_page_size))]
+fn stopped(alloc: Global, calls: u64) -> Result<Run, Failed> {
+    let mut disk = Quiet::empty(alloc, None)?;
+    disk.disk.stop_after(calls);
+    match opens(alloc, disk, PAGE, LIMIT, SCRIPT) {
+        Ok(run) => Ok(run),
+        Err(_) => Err(Failed),
+    }
 }
 
 /// What the script shows where so many calls go well and all later ones fail.
-#[tactic(auto, unfolding(page_spec::specs::Header::is_page_size))]
-fn shows_stopped(alloc: Global, calls: u64) -> Result<Shown, AllocError> {
-    let Ok(mut disk) = Quiet::empty(alloc, None) else {
-        return Ok(Shown::Wrong);
-    };
-    disk.disk.stop_after(calls);
-    let run = opens(alloc, disk, PAGE, LIMIT, SCRIPT)?;
-    if !any_failed(&run) {
-        return Ok(over(&run));
-    }
-    match judged(alloc, &run)? {
-        Some(plain) => Ok(shown_by(recovers_each(alloc, &run, &plain)?)),
-        None => Ok(Shown::Wrong),
+fn shows_stopped(alloc: Global, calls: u64) -> Shown {
+    match stopped(alloc, calls) {
+        Ok(run) => shown_in(alloc, &run, None),
+        Err(_) => Shown::Wrong,
     }
 }
 
 /// How many calls of a kind there are in the script, each of which failed in a run of its own; else the first that shows otherwise than it has to.
-fn count_failing(alloc: Global, file: File, call: Call) -> Result<Result<u64, u64>, AllocError> {
+fn count_failing(alloc: Global, file: File, call: Call) -> Result<u64, u64> {
     for nth in 1..1000 {
-        match shows_failing(alloc, Fail { file, call, nth })? {
-            Shown::Over => return Ok(Ok(nth - 1)),
+        match shows_failing(alloc, Fail { file, call, nth }) {
+            Shown::Over => return Ok(nth - 1),
             Shown::Right => {}
-            Shown::Wrong => return Ok(Err(nth)),
+            Shown::Wrong => return Err(nth),
         }
     }
-    Ok(Err(0))
+    Err(0)
+}
+
+/// The calls of each kind. A header, a frame and a page of Main are one write each. How often it reads and asks for sizes isn't said.
+const COUNTS: &[(File, Call, Option<u64>)] = &[
+    (File::Main, Call::Write, Some(23)),
+    (File::Main, Call::Sync, Some(3)),
+    (File::Log1, Call::Write, Some(29)),
+    (File::Log1, Call::Sync, Some(9)),
+    (File::Log2, Call::Write, Some(13)),
+    (File::Log2, Call::Sync, Some(8)),
+    (File::Main, Call::Journal, Some(1)),
+    (File::Main, Call::Read, None),
+    (File::Main, Call::Size, None),
+    (File::Log1, Call::Read, None),
+    (File::Log1, Call::Size, None),
+    (File::Log2, Call::Read, None),
+    (File::Log2, Call::Size, None),
+];
+
+fn is_counted(alloc: Global, file: File, call: Call, said: Option<u64>) -> bool {
+    match count_failing(alloc, file, call) {
+        Ok(count) => said.is_none() || said == Some(count),
+        Err(_) => false,
+    }
+}
+
+/// The place of the first row that isn't right.
+fn first_wrong_count(alloc: Global) -> Option<usize> {
+    for at in 0..COUNTS.len() {
+        let (file, call, said) = COUNTS[at];
+        if !is_counted(alloc, file, call, said) {
+            return Some(at);
+        }
+    }
+    None
 }
 
 #[test]
-fn each_call_fails_in_turn(rt: HostRuntime) -> Result<(), test::Fail> {
-    // A header, a frame and a page of Main are one write each.
-    let cases = [
-        (File::Main, Call::Write, 23),
-        (File::Main, Call::Sync, 3),
-        (File::Log1, Call::Write, 29),
-        (File::Log1, Call::Sync, 9),
-        (File::Log2, Call::Write, 13),
-        (File::Log2, Call::Sync, 8),
-        (File::Main, Call::Journal, 1),
-    ];
-    for (file, call, count) in cases {
-        assert_eq!(rt;
-            count_failing(rt.alloc(), file, call)?,
-            Ok(count),
-            "{file:?} {call:?}"
-        );
-    }
-    // How often it reads and asks for sizes isn't said.
-    for file in [File::Main, File::Log1, File::Log2] {
-        assert!(rt;
-            count_failing(rt.alloc(), file, Call::Read)?.is_ok(),
-            "{file:?}"
-        );
-        assert!(rt;
-            count_failing(rt.alloc(), file, Call::Size)?.is_ok(),
-            "{file:?}"
-        );
-    }
-    Ok(())
+fn each_call_fails_in_turn(rt: HostRuntime) {
+    assert_eq!(rt; first_wrong_count(rt.alloc()), None);
 }
 
-/// After how many calls the script stopped in a run of its own each; else the first that shows otherwise than it has to.
-fn count_stopped(alloc: Global) -> Result<Result<u64, u64>, AllocError> {
+/// The first number of calls after which the script stops and shows otherwise than it has to; none where there is none up to its end.
+fn first_wrong_stop(alloc: Global) -> Option<u64> {
     for calls in 0..10_000 {
-        match shows_stopped(alloc, calls)? {
-            Shown::Over => return Ok(Ok(calls)),
+        match shows_stopped(alloc, calls) {
+            Shown::Over => return None,
             Shown::Right => {}
-            Shown::Wrong => return Ok(Err(calls)),
+            Shown::Wrong => return Some(calls),
         }
     }
-    Ok(Err(0))
+    Some(10_000)
 }
 
 #[test]
-fn it_stops_after_each_call(rt: HostRuntime) -> Result<(), test::Fail> {
-    assert!(rt; count_stopped(rt.alloc())?.is_ok());
-    Ok(())
+fn it_stops_after_each_call(rt: HostRuntime) {
+    assert_eq!(rt; first_wrong_stop(rt.alloc()), None);
 }

@@ -4,7 +4,7 @@ use page_face::{Ckpt, Logs, Receipt};
 use page_lines::{Act, Told};
 
 /// A line and its answer. A session comes first, then a page, then a byte; of a commit its number comes last.
-#[derive(Clone, Copy, Debug)]
+#[derive(Clone, Copy)]
 pub enum Line {
     Begin(u32),
     /// The byte is the answer.

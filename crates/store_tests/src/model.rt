@@ -120,23 +120,27 @@ impl PlainMaps {
         told == Told::Byte(byte) || self.fails(told)
     }
 
-    fn commits_one(&mut self, session: u32, told: Told) -> Result<bool, AllocError> {
+    fn commits_one(&mut self, session: u32, told: Told) -> bool {
         let seat = self.seat(session);
         if seat.page == 0 {
             self.put(session, OUT);
-            return Ok(told == Told::Done(Receipt::ReadOnly(seat.snap as u64)));
+            return told == Told::Done(Receipt::ReadOnly(seat.snap as u64));
         }
         match told {
             Told::Done(Receipt::At(number)) => {
-                let map = with_byte(self.newest(), seat.page, seat.byte);
-                self.maps.push(map)?;
                 self.put(session, OUT);
-                self.hand = None;
-                Ok(self.halt.is_none() && number == self.commits() as u64)
+                self.grows(seat) && self.halt.is_none() && number == self.commits() as u64
             }
-            Told::Stopped { log, at } => Ok(self.stops(log, at)),
-            _ => Ok(self.breaks(seat, told)),
+            Told::Stopped { log, at } => self.stops(log, at),
+            _ => self.breaks(seat, told),
         }
+    }
+
+    // One more map, with the byte of a seat; or memory ran out.
+    fn grows(&mut self, seat: Seat) -> bool {
+        self.hand = None;
+        let map = with_byte(self.newest(), seat.page, seat.byte);
+        self.maps.push(map).is_ok()
     }
 
     // The same place is told each time, once a commit failed.
@@ -157,45 +161,45 @@ impl PlainMaps {
         self.halt.is_none() && self.fails(told)
     }
 
+    fn begins(&mut self, session: u32, told: Told) -> bool {
+        let snap = self.commits();
+        self.put(
+            session,
+            Seat {
+                open: true,
+                snap,
+                ..OUT
+            },
+        );
+        told == Told::Ok
+    }
+
+    fn writes(&mut self, session: u32, page: u32, byte: u8, told: Told) -> bool {
+        let seat = self.seat(session);
+        self.put(session, Seat { page, byte, ..seat });
+        told == Told::Ok
+    }
+
+    fn rolls_back(&mut self, session: u32, told: Told) -> bool {
+        let open = self.seat(session).open;
+        self.put(session, OUT);
+        told == if open { Told::Ok } else { Told::NoTransaction }
+    }
+
     /// Whether this answer to an act may come.
-    pub fn takes(&mut self, act: Act, told: Told) -> Result<bool, AllocError> {
+    pub fn takes(&mut self, act: Act, told: Told) -> bool {
         match act {
-            Act::Begin { session } => {
-                let snap = self.commits();
-                self.put(
-                    session,
-                    Seat {
-                        open: true,
-                        snap,
-                        ..OUT
-                    },
-                );
-                Ok(told == Told::Ok)
-            }
-            Act::Read { session, page } => Ok(self.reads(session, page, told)),
+            Act::Begin { session } => self.begins(session, told),
+            Act::Read { session, page } => self.reads(session, page, told),
             Act::Write {
                 session,
                 page,
                 byte,
-            } => {
-                let seat = self.seat(session);
-                self.put(session, Seat { page, byte, ..seat });
-                Ok(told == Told::Ok)
-            }
+            } => self.writes(session, page, byte, told),
             Act::Commit { session } => self.commits_one(session, told),
-            Act::Rollback { session } => {
-                let seat = self.seat(session);
-                self.put(session, OUT);
-                Ok(
-                    told == if seat.open {
-                        Told::Ok
-                    } else {
-                        Told::NoTransaction
-                    },
-                )
-            }
-            Act::Copy | Act::Step => Ok(matches!(told, Told::Ckpt(_)) || self.fails(told)),
-            Act::Logs => Ok(matches!(told, Told::Logs(_))),
+            Act::Rollback { session } => self.rolls_back(session, told),
+            Act::Copy | Act::Step => matches!(told, Told::Ckpt(_)) || self.fails(told),
+            Act::Logs => matches!(told, Told::Logs(_)),
         }
     }
 

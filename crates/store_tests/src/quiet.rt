@@ -56,21 +56,25 @@ impl Quiet {
     {
         let mut disk = disk;
         disk.attach(b"db")?;
-        match (
-            disk.file(File::Main).to_vec(alloc),
-            disk.file(File::Log1).to_vec(alloc),
-            disk.file(File::Log2).to_vec(alloc),
-        ) {
-            (Ok(main), Ok(log1), Ok(log2)) => Ok(Quiet {
-                alloc,
-                disk,
-                main,
-                log1,
-                log2,
-                faults: 0,
-            }),
-            _ => Err(Failed),
-        }
+        let mut quiet = Quiet {
+            alloc,
+            disk,
+            main: Vec::new(alloc),
+            log1: Vec::new(alloc),
+            log2: Vec::new(alloc),
+            faults: 0,
+        };
+        quiet.keep_all()?;
+        Ok(quiet)
+    }
+
+    // Keeps what each file holds.
+    fn keep_all(&mut self) -> Result<(), Failed>
+        ensures attached { self.new.disk ≡ self.old.disk }
+    {
+        self.keep(File::Main)?;
+        self.keep(File::Log1)?;
+        self.keep(File::Log2)
     }
 
     /// Three empty files that are named. The call that is named fails.
@@ -119,29 +123,25 @@ impl Quiet {
         Ok(())
     }
 
+    // What a crash leaves with this byte wherever it may leave any.
+    fn left(&self, byte: u8) -> Result<MemDisk, AllocError> {
+        let pick = filled(self.alloc, byte)?;
+        self.disk.crash(&pick)
+    }
+
     /// A pick by which a crash leaves old bytes wherever it may leave any, and 0 where there were none.
     pub fn old_bytes(&self) -> Result<Vec<u8>, AllocError> {
-        let zeros = self.disk.crash(&filled(self.alloc, 0)?)?;
-        let wild = self.disk.crash(&filled(self.alloc, 255)?)?;
+        let zeros = self.left(0)?;
+        let wild = self.left(255)?;
+        self.old_where_unlike(&zeros, &wild)
+    }
+
+    // The old bytes of the places at which these two differ.
+    fn old_where_unlike(&self, zeros: &MemDisk, wild: &MemDisk) -> Result<Vec<u8>, AllocError> {
         let mut pick = Vec::new(self.alloc);
-        add_old(
-            &mut pick,
-            zeros.file(File::Main),
-            wild.file(File::Main),
-            &self.main,
-        )?;
-        add_old(
-            &mut pick,
-            zeros.file(File::Log1),
-            wild.file(File::Log1),
-            &self.log1,
-        )?;
-        add_old(
-            &mut pick,
-            zeros.file(File::Log2),
-            wild.file(File::Log2),
-            &self.log2,
-        )?;
+        add_old(&mut pick, zeros, wild, File::Main, &self.main)?;
+        add_old(&mut pick, zeros, wild, File::Log1, &self.log1)?;
+        add_old(&mut pick, zeros, wild, File::Log2, &self.log2)?;
         Ok(pick)
     }
 }
@@ -151,8 +151,16 @@ pub fn filled(alloc: Global, byte: u8) -> Result<Vec<u8>, AllocError> {
     vec![in alloc; byte; UNSURE]
 }
 
-// Adds the old bytes of the places at which these two differ.
-fn add_old(pick: &mut Vec<u8>, zeros: &[u8], wild: &[u8], old: &[u8]) -> Result<(), AllocError> {
+// Adds those of one file.
+fn add_old(
+    pick: &mut Vec<u8>,
+    zeros: &MemDisk,
+    wild: &MemDisk,
+    file: File,
+    old: &[u8],
+) -> Result<(), AllocError> {
+    let zeros = zeros.file(file);
+    let wild = wild.file(file);
     for place in 0..zeros.len() {
         if wild.get(place) != zeros.get(place) {
             pick.push(old.get(place).copied().unwrap_or(0))?;

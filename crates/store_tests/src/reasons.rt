@@ -6,7 +6,7 @@ use recover::LookFault;
 use std::alloc::{AllocError, Global};
 use store::{OpenFault, append_reason};
 
-const FAULTS: [OpenFault; 21] = [
+const FAULTS: &[OpenFault] = &[
     OpenFault::Look(LookFault::Header(HeaderFault::NotADb)),
     OpenFault::Look(LookFault::Header(HeaderFault::PageSize(768))),
     OpenFault::Look(LookFault::Header(HeaderFault::Versions(1, 2))),
@@ -67,7 +67,7 @@ fn each_fault_of_an_opening_has_its_text(rt: HostRuntime) -> Result<(), AllocErr
 
 fn reasons(alloc: Global) -> Result<Vec<u8>, AllocError> {
     let mut text = Vec::new(alloc);
-    for fault in &FAULTS {
+    for fault in FAULTS {
         append_reason(fault, &mut text)?;
         text.push(b'\n')?;
     }

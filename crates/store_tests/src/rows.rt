@@ -1,14 +1,10 @@
 // Runs that are worked by hand from the rules of the two logs. Each commit has two frames: of page 1, and of the page that it wrote.
-ghost use Rattle.std.specs.Prelude.{◌≤◌};
-
 use crate::lines::Line;
-use crate::quiet::Quiet;
-use crate::trial::opens;
-use disk_face::{Failed, File};
+use crate::trial::starts;
+use disk_face::File;
 use disk_mem::{Call, Fail};
 use page_face::Ckpt;
 use std::alloc::Global;
-use std::test;
 
 /// The bytes of a page in these runs.
 pub const PAGE: u32 = 4096;
@@ -191,21 +187,14 @@ pub const TORN_FRAME: &[Line] = &[
     Line::Logs(1, 2, true),
 ];
 
-/// The answers of a store on three empty files, where the call that is named fails. None where all lines are answered as they say.
+/// Whether all lines are answered as they say by a store on three empty files, where the call that is named fails.
 #[tactic(auto, unfolding(page_spec::specs::Header::is_page_size))]
-fn first_wrong(
-    alloc: Global,
-    limit: u32,
-    failing: Option<Fail>,
-    lines: &[Line],
-) -> Result<Option<usize>, Failed>
-    requires { 1 ≤ limit }
-{
-    let disk = Quiet::empty(alloc, failing)?;
-    match opens(alloc, disk, PAGE, limit, lines) {
-        Ok(run) => Ok(run.first_wrong(lines)),
-        Err(_) => Err(Failed),
-    }
+fn is_answered(alloc: Global, limit: u32, failing: Option<Fail>, lines: &[Line]) -> bool {
+    1 <= limit
+        && match starts(alloc, failing, PAGE, limit, lines) {
+            Ok(run) => run.first_wrong(lines).is_none(),
+            Err(_) => false,
+        }
 }
 
 /// A commit for which a page can't be read is refused, and goes well when it is asked for again.
@@ -221,34 +210,47 @@ const READ_IN_VAIN: &[Line] = &[
 ];
 
 /// Whether there is a read of Main for which that holds. How many reads there are before it isn't said.
-fn commits_again(alloc: Global) -> Result<bool, Failed> {
+fn commits_again(alloc: Global) -> bool {
     for nth in 1..100 {
         let fail = Fail {
             file: File::Main,
             call: Call::Read,
             nth,
         };
-        if first_wrong(alloc, 4, Some(fail), READ_IN_VAIN)?.is_none() {
-            return Ok(true);
+        if is_answered(alloc, 4, Some(fail), READ_IN_VAIN) {
+            return true;
         }
     }
-    Ok(false)
+    false
 }
 
 #[test]
-fn a_commit_that_is_handed_back_goes_well_later(rt: HostRuntime) -> Result<(), test::Fail> {
-    assert!(rt; commits_again(rt.alloc())?);
-    Ok(())
+fn a_commit_that_is_handed_back_goes_well_later(rt: HostRuntime) {
+    assert!(rt; commits_again(rt.alloc()));
+}
+
+/// The limit of a run, which call of it fails, and its lines.
+const RUNS: &[(u32, Option<Fail>, &[Line])] = &[
+    (4, None, SWITCH),
+    (4, None, OLD_READER),
+    (4, None, FULL_READER),
+    (1000, None, CONFLICTS),
+    (4, HEADER_SYNC, TORN_HEADER),
+    (4, SECOND_SYNC, TORN_FRAME),
+];
+
+/// The place of the first run that is answered otherwise than it says.
+fn first_wrong_run(alloc: Global) -> Option<usize> {
+    for at in 0..RUNS.len() {
+        let (limit, failing, lines) = RUNS[at];
+        if !is_answered(alloc, limit, failing, lines) {
+            return Some(at);
+        }
+    }
+    None
 }
 
 #[test]
-fn runs_that_are_worked_by_hand(rt: HostRuntime) -> Result<(), test::Fail> {
-    let alloc = rt.alloc();
-    assert_eq!(rt; first_wrong(alloc, 4, None, SWITCH), Ok(None));
-    assert_eq!(rt; first_wrong(alloc, 4, None, OLD_READER), Ok(None));
-    assert_eq!(rt; first_wrong(alloc, 4, None, FULL_READER), Ok(None));
-    assert_eq!(rt; first_wrong(alloc, 1000, None, CONFLICTS), Ok(None));
-    assert_eq!(rt; first_wrong(alloc, 4, HEADER_SYNC, TORN_HEADER), Ok(None));
-    assert_eq!(rt; first_wrong(alloc, 4, SECOND_SYNC, TORN_FRAME), Ok(None));
-    Ok(())
+fn runs_that_are_worked_by_hand(rt: HostRuntime) {
+    assert_eq!(rt; first_wrong_run(rt.alloc()), None);
 }

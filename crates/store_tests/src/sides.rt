@@ -1,14 +1,11 @@
 // The same acts over the engine in memory and over a store on a disk, which have to be answered alike.
 use crate::lines::Line;
-use crate::quiet::Quiet;
 use crate::rows::PAGE;
-use crate::trial::{Run, acts_of, opens};
+use crate::trial::{acts_of, is_told, starts};
 use acts::play;
-use disk_face::Failed;
 use page_lines::Told;
 use page_runs::engine_of_zeros;
 use std::alloc::{AllocError, Global};
-use std::test;
 
 /// A page is read and then written by another session, and its reader is refused.
 const LINES: &[Line] = &[
@@ -33,33 +30,24 @@ fn in_memory(alloc: Global) -> Result<Vec<Told>, AllocError> {
     play(alloc, &mut engine, &acts)
 }
 
-/// The answers of a store on three empty files.
-#[tactic(auto, unfolding(page_spec::specs::Header::is_page_size))]
-fn on_a_disk(alloc: Global) -> Result<Vec<Told>, Failed> {
-    let disk = Quiet::empty(alloc, None)?;
-    let Ok(run) = opens(alloc, disk, PAGE, 1000, LINES) else {
-        return Err(Failed);
-    };
-    let Run { told, .. } = run;
-    match told {
-        Ok(told) => Ok(told),
-        Err(_) => Err(Failed),
+fn memory_answers(alloc: Global) -> bool {
+    match in_memory(alloc) {
+        Ok(told) => is_told(&told, LINES),
+        Err(_) => false,
     }
 }
 
-/// The answers that the lines name.
-fn expected(alloc: Global) -> Result<Vec<Told>, AllocError> {
-    let mut told = Vec::new(alloc);
-    for line in LINES {
-        told.push(line.told())?;
+/// The same of a store on three empty files.
+#[tactic(auto, unfolding(page_spec::specs::Header::is_page_size))]
+fn disk_answers(alloc: Global) -> bool {
+    match starts(alloc, None, PAGE, 1000, LINES) {
+        Ok(run) => run.tells(LINES),
+        Err(_) => false,
     }
-    Ok(told)
 }
 
 #[test]
-fn both_engines_answer_alike(rt: HostRuntime) -> Result<(), test::Fail> {
-    let expected = expected(rt.alloc())?;
-    assert_eq!(rt; in_memory(rt.alloc())?, expected);
-    assert_eq!(rt; on_a_disk(rt.alloc()), Ok(expected));
-    Ok(())
+fn both_engines_answer_alike(rt: HostRuntime) {
+    assert!(rt; memory_answers(rt.alloc()));
+    assert!(rt; disk_answers(rt.alloc()));
 }

@@ -6,7 +6,8 @@ ghost use Rattle.page_lines.specs.Range.{IsInRange};
 use crate::lines::Line;
 use crate::quiet::Quiet;
 use acts::play;
-use disk_mem::FixedSalts;
+use disk_face::Failed;
+use disk_mem::{Fail, FixedSalts};
 use engine_spec::Entry;
 use page_lines::{Act, Raw, Told};
 use recover::{Setup, StoreKind};
@@ -92,11 +93,59 @@ pub fn opens(
     }
 }
 
+/// The same on three empty files, where the call that is named fails.
+#[tactic(auto, unfolding(page_spec::specs::Header::is_page_size))]
+pub fn starts(
+    alloc: Global,
+    failing: Option<Fail>,
+    page_size: u32,
+    limit: u32,
+    lines: &[Line],
+) -> Result<Run, Failed>
+    requires page_size { IsTrue (is_page_size page_size) }
+    requires limit { 1 ≤ limit }
+    ensures attached { IfOk result (λ run. run.disk.disk.attached ≡ true) }
+{
+    let disk = Quiet::empty(alloc, failing)?;
+    match opens(alloc, disk, page_size, limit, lines) {
+        Ok(run) => Ok(run),
+        Err(_) => Err(Failed),
+    }
+}
+
+/// The same on what a crash leaves of a run's files with this pick.
+#[tactic(auto, unfolding(page_spec::specs::Header::is_page_size))]
+pub fn starts_again(
+    alloc: Global,
+    run: &Run,
+    pick: &[u8],
+    page_size: u32,
+    limit: u32,
+    lines: &[Line],
+) -> Result<Run, Failed>
+    requires page_size { IsTrue (is_page_size page_size) }
+    requires limit { 1 ≤ limit }
+{
+    let left = run.disk.crashed(pick)?;
+    match opens(alloc, left, page_size, limit, lines) {
+        Ok(again) => Ok(again),
+        Err(_) => Err(Failed),
+    }
+}
+
 impl Run {
     /// Whether a line told the byte 0.
     pub fn tells_zero(&self, at: usize) -> bool {
         match &self.told {
             Ok(told) => at < told.len() && told[at] == Told::Byte(0),
+            Err(_) => false,
+        }
+    }
+
+    /// Whether just these lines were answered, each as it says.
+    pub fn tells(&self, lines: &[Line]) -> bool {
+        match &self.told {
+            Ok(told) => is_told(told, lines),
             Err(_) => false,
         }
     }
@@ -108,6 +157,11 @@ impl Run {
             Err(_) => Some(0),
         }
     }
+}
+
+/// Whether these are the answers that the lines name.
+pub fn is_told(told: &[Told], lines: &[Line]) -> bool {
+    told.len() == lines.len() && first_wrong(told, lines).is_none()
 }
 
 fn first_wrong(told: &[Told], lines: &[Line]) -> Option<usize> {
