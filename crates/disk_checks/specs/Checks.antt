@@ -1,5 +1,5 @@
 -- What a check of the files of a path comes to.
-use Rattle.std.specs.Prelude.{◌≡◌, ◌⊎◌, ℕ, List, [], ◌∷◌, ◌++◌, Option, Some, IfSome, codes, decimal}
+use Rattle.std.specs.Prelude.{◌≡◌, ◌⊎◌, ℕ, Bool, List, [], ◌∷◌, ◌++◌, Option, Some, IfSome, codes, decimal}
 use Rattle.disk_face.specs.Stays.{OnlyNames}
 use Rattle.disk_face.specs.Steps.{History, reads}
 use Rattle.disk_face.specs.Told.{IsNamed}
@@ -8,8 +8,11 @@ use Rattle.disk_face.specs.declared.sink.Sink as sinks
 use Rattle.crash_spec.specs.Opening.{opening_at}
 use Rattle.opening_spec.specs.Begins.{MayOpen}
 use Rattle.engine_spec.specs.Leaves.{RecoversNow}
+use Rattle.page_lines.specs.Logged.{DiskPast}
 use Rattle.check_spec.specs.declared.fault.Count.{Count}
+use Rattle.tree_check.specs.Checking.{IsCounted}
 use Rattle.recover.specs.declared.setup.StoreKind.TheVariants.{Tables}
+use Rattle.sound_begins.specs.Begun.{database_begun}
 use Rattle.store.specs.Opening.{AreTables, IsCountOf, MaySettle, map_begun, size_opened}
 use Rattle.page_runs.specs.declared.status.Status.{Status}
 use Rattle.page_runs.specs.declared.status.Status.TheVariants as status
@@ -33,19 +36,26 @@ abbrev pub LeavesBegun : (new_size : ℕ) → Option History → Option History 
 LeavesBegun new_size old new = (told : History) → old ≡ Some told → MayOpen (size_opened new_size (reads told)) told → MaySettle (reads told)
     → RecoversNow (opening_at told) (map_begun Tables new_size (reads told) ∷ []) new
 
--- The files were opened, since nothing bars them; what was counted is what they have, and was told.
-pub record TellsCount {D K : Type 0} (disk : disks.Ghosts D) (sink : sinks.Ghosts K) (new_size : ℕ) (ended : Status) (d : D) (out : K) (d' : D) (out' : K) : Type 0 where
+-- what a disk has counted and tells
+abbrev pub past_of : {D : Type 0} → disks.Ghosts D → D → DiskPast
+past_of disk d = record { faults = disk.faults d; past = disk.told d }
+
+-- The files were opened, since nothing bars them, beside a journal that answers so. What was told is what was counted in them, and what the database
+-- with which the store begins has: its pages, trees and free pages.
+pub record TellsCount {K : Type 0} (sink : sinks.Ghosts K) (new_size : ℕ) (hot : Option Bool) (before after : DiskPast) (ended : Status) (out out' : K) : Type 0 where
   pub count : Count
-  pub opened : IfSome (disk.told d) (λ told. AreTables (disk.journal_answer d) (reads told))
-  pub counted : IfSome (disk.told d) (λ told. IsCountOf (reads told) count)
-  pub faults : disk.faults d' ≡ disk.faults d
-  pub moments : Settles Tables new_size (disk.told d) (disk.told d')
-  pub begun : LeavesBegun new_size (disk.told d) (disk.told d')
+  pub opened : IfSome before.past (λ told. AreTables hot (reads told))
+  pub counted : IfSome before.past (λ told. IsCountOf (reads told) count)
+  pub has : IfSome before.past (λ told. IsCounted (database_begun new_size (reads told)) count)
+  pub faults : after.faults ≡ before.faults
+  pub moments : Settles Tables new_size before.past after.past
+  pub begun : LeavesBegun new_size before.past after.past
   pub says : SaysCount sink count ended out out'
 
 -- A check of files that are named: they weren't opened, or they were.
 abbrev pub ChecksOpened : {D K : Type 0} → disks.Ghosts D → sinks.Ghosts K → (new_size : ℕ) → Status → D → K → D → K → Type 0
-ChecksOpened disk sink new_size ended d out d' out' = Unopened disk sink Tables new_size ended d out d' out' ⊎ TellsCount disk sink new_size ended d out d' out'
+ChecksOpened disk sink new_size ended d out d' out' = Unopened disk sink Tables new_size ended d out d' out'
+    ⊎ TellsCount sink new_size (disk.journal_answer d) (past_of disk d) (past_of disk d') ended out out'
 
 -- The files of this path were named, and then they were checked.
 pub record ChecksNamed {D K : Type 0} (disk : disks.Ghosts D) (sink : sinks.Ghosts K) (path : List ℕ) (ended : Status) (d : D) (out : K) (d' : D) (out' : K) : Type 0 where
