@@ -6,8 +6,14 @@ use disk_face::File;
 use disk_mem::{Call, Fail, FixedSalts, MemDisk, MemSink};
 use page_runs::Status;
 use std::alloc::{AllocError, Global};
-use std::process::Abort;
 use std::test;
+
+/// How a check ends, and what it writes.
+#[derive(Clone, Copy)]
+struct End {
+    status: Status,
+    written: &'static [u8],
+}
 
 /// A check of files of which the database's alone has bytes.
 #[derive(Clone, Copy)]
@@ -17,110 +23,131 @@ struct Row {
     fails: Option<Call>,
     /// Which call of the sink fails, from 1.
     sink_fails: Option<u64>,
-    status: Status,
-    written: &'static [u8],
+    end: End,
     /// How it ends over what a crash leaves then, where nothing fails any more.
-    status_again: Status,
-    written_again: &'static [u8],
+    again: End,
 }
 
 /// What is told of a new database.
-const NEW: &[u8] = b"pages 1 trees 1 free 0\n";
+const NEW: End = End {
+    status: Status::Done,
+    written: b"pages 1 trees 1 free 0\n",
+};
 
-const FAILED: &[u8] = b"disk failed\n";
+const FAILED: End = End {
+    status: Status::DiskFailed,
+    written: b"disk failed\n",
+};
 
-const REFUSED: &[u8] = b"database refused: not a database\n";
+const REFUSED: End = End {
+    status: Status::DatabaseRefused,
+    written: b"database refused: not a database\n",
+};
 
-/// Three empty files, none of whose calls fails.
-fn empty() -> Row {
+const ROWS: &[Row] = &[
+    // Three empty files, none of whose calls fails.
     Row {
         main: b"",
         fails: None,
         sink_fails: None,
-        status: Status::Done,
-        written: NEW,
-        status_again: Status::Done,
-        written_again: NEW,
-    }
-}
+        end: NEW,
+        again: NEW,
+    },
+    Row {
+        main: &[0; 100],
+        fails: None,
+        sink_fails: None,
+        end: REFUSED,
+        again: REFUSED,
+    },
+    // The files can't be named, and the first write to the database's file fails.
+    Row {
+        main: b"",
+        fails: Some(Call::Attach),
+        sink_fails: None,
+        end: FAILED,
+        again: NEW,
+    },
+    Row {
+        main: b"",
+        fails: Some(Call::Write),
+        sink_fails: None,
+        end: FAILED,
+        again: NEW,
+    },
+    Row {
+        main: b"",
+        fails: None,
+        sink_fails: Some(1),
+        end: End {
+            status: Status::SinkFailed,
+            written: b"",
+        },
+        again: NEW,
+    },
+];
 
-/// Checks the files of this disk, and gives the status and what was written.
-fn checked(
-    alloc: Global,
-    disk: &mut MemDisk,
-    sink_fails: Option<u64>,
-) -> Result<(Status, Vec<u8>), AllocError>
+/// Whether a check of the files of this disk ends so.
+fn ends(alloc: Global, disk: &mut MemDisk, sink_fails: Option<u64>, end: End) -> bool
     requires { disk.old.attached ≡ false }
 {
     let mut sink = MemSink::new(alloc, 4096, sink_fails);
     let mut salts = FixedSalts::new(Vec::new(alloc));
     let status = check_on_disk(alloc, b"db", disk, &mut sink, &mut salts);
-    Ok((status, sink.written().to_vec(alloc)?))
+    status == end.status && sink.written() == end.written
 }
 
-/// The disk of a row.
-fn disk_of(alloc: Global, row: Row) -> Result<MemDisk, AllocError>
-    ensures { IfOk result (λ disk. disk.attached ≡ false) }
-{
+/// The same of the files that a crash leaves.
+fn ends_again(alloc: Global, disk: &MemDisk, end: End) -> bool {
+    match disk.crash(&[]) {
+        Ok(mut left) => ends(alloc, &mut left, None, end),
+        Err(_) => false,
+    }
+}
+
+/// The calls of a row's disk that fail.
+fn failing(alloc: Global, call: Option<Call>) -> Result<Vec<Fail>, AllocError> {
     let mut failing = Vec::new(alloc);
-    if let Some(call) = row.fails {
+    if let Some(call) = call {
         failing.push(Fail {
             file: File::Main,
             call,
             nth: 1,
         })?;
     }
+    Ok(failing)
+}
+
+/// The disk of a row.
+fn disk_of(alloc: Global, row: Row) -> Result<MemDisk, AllocError>
+    ensures { IfOk result (λ disk. disk.attached ≡ false) }
+{
+    let failing = failing(alloc, row.fails)?;
     let main = row.main.to_vec(alloc)?;
     Ok(MemDisk::new(alloc, main, Vec::new(alloc), Vec::new(alloc), failing))
 }
 
-/// Checks the files of a row, and what a crash leaves of them.
-fn ends_as_told(rt: &impl Abort, alloc: Global, row: Row) -> Result<(), test::Fail> {
-    let mut disk = disk_of(alloc, row)?;
-    let (status, written) = checked(alloc, &mut disk, row.sink_fails)?;
-    assert_eq!(rt; written.as_slice(), row.written);
-    assert_eq!(rt; status, row.status);
-    let mut left = disk.crash(&[])?;
-    let (status, written) = checked(alloc, &mut left, None)?;
-    assert_eq!(rt; written.as_slice(), row.written_again);
-    assert_eq!(rt; status, row.status_again);
-    Ok(())
+/// Whether the checks of a row's files, and of what a crash leaves of them, end as it says.
+fn ends_as_told(alloc: Global, row: Row) -> bool {
+    match disk_of(alloc, row) {
+        Ok(mut disk) => ends(alloc, &mut disk, row.sink_fails, row.end)
+            && ends_again(alloc, &disk, row.again),
+        Err(_) => false,
+    }
+}
+
+/// The same of all rows.
+fn all_end_as_told(alloc: Global) -> bool {
+    for row in ROWS {
+        if !ends_as_told(alloc, *row) {
+            return false;
+        }
+    }
+    true
 }
 
 #[test]
 fn checks_of_files(rt: HostRuntime) -> Result<(), test::Fail> {
-    let rows = [
-        empty(),
-        Row {
-            main: &[0; 100],
-            status: Status::DatabaseRefused,
-            written: REFUSED,
-            status_again: Status::DatabaseRefused,
-            written_again: REFUSED,
-            ..empty()
-        },
-        // The files can't be named, and the first write to the database's file fails.
-        Row {
-            fails: Some(Call::Attach),
-            status: Status::DiskFailed,
-            written: FAILED,
-            ..empty()
-        },
-        Row {
-            fails: Some(Call::Write),
-            status: Status::DiskFailed,
-            written: FAILED,
-            ..empty()
-        },
-        Row {
-            sink_fails: Some(1),
-            status: Status::SinkFailed,
-            written: b"",
-            ..empty()
-        },
-    ];
-    for row in rows {
-        ends_as_told(&rt, rt.alloc(), row)?;
-    }
+    assert!(rt; all_end_as_told(rt.alloc()));
     Ok(())
 }
