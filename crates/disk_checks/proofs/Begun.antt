@@ -1,5 +1,5 @@
 -- After files were opened, what a crash leaves is the map with which the store begins.
-use Rattle.std.proofs.Common.{◌≡◌, ℕ, Bool, true, List, [], ◌∷◌, ◌++◌, Option, None, Some, option_map, IfSome, sym, subst}
+use Rattle.std.proofs.Common.{◌≡◌, ℕ, Bool, true, List, [], ◌∷◌, ◌++◌, Option, None, Some, option_map, IfSome, refl, sym, subst}
 use Rattle.disk_face.specs.Steps.{History, reads}
 use Rattle.disk_face.specs.declared.tells.DiskTells as disks
 use Rattle.disk_face.specs.declared.sink.Sink as sinks
@@ -23,7 +23,11 @@ use Rattle.page_lines.specs.Logged.{DiskPast}
 use Rattle.tree_check.specs.Checking.{IsCounted}
 use Rattle.sound_begins.specs.Begun.{database_begun}
 use Rattle.sound_begins.proofs.Counts.{begun_counts}
-use Rattle.disk_checks.specs.Checks.{LeavesBegun, SaysCount, TellsCount, past_of}
+use Rattle.disk_checks.specs.Checks.{LeavesBegun, SaysCount, TellsCount, page_size_checked, past_of}
+
+pub checked_size_legal : is_page_size page_size_checked ≡ true
+unfolding is_page_size
+checked_size_legal = refl
 
 -- a store without a failed write, whose newest map is this one
 newest_left : (kept : StoreData) (told : Option History) (map : PageMap) (opening : Opening) → kept.stop ≡ None → newest_told kept told ≡ Some map
