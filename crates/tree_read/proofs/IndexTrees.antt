@@ -64,7 +64,7 @@ pub record Split (usable last : ℕ) (shown : Shown) (cells : List NodeCell) (pl
 never_both : (a b : Ordering) → a ≡ b → a ≡ Less → b ≡ Greater → ⊥
 never_both a b same less greater = cc
 
-record_of : (usable last most : ℕ) (shown : Shown) (node : Node) (k : ℕ) (entry : List Value) (order : Ordering) (item : Item) → (c : Compares usable most shown node k entry order)
+pub record_of : (usable last most : ℕ) (shown : Shown) (node : Node) (k : ℕ) (entry : List Value) (order : Ordering) (item : Item) → (c : Compares usable most shown node k entry order)
     → IsItem usable last shown (cell_at node k) item → IsRecord item.bytes c.row
 record_of usable last most shown node k entry order item c is_item =
     subst (λ (b : List ℕ). IsRecord b c.row) (whole_payload usable last most shown (cell_at node k) c.chain c.next item c.followed is_item) c.is_record
@@ -316,7 +316,7 @@ leaf_split usable last shown (cell ∷ cells) (item ∷ items) (suc place) are m
         (item ∷ found.0, (found.1.0, (ap (λ (l : List Item). item ∷ l) found.1.1.0, found.1.1.1)))
 
 -- all items are a part of them
-whole_part : (items : List Item) (entry : List Value) → IsPart items entry items
+pub whole_part : (items : List Item) (entry : List Value) → IsPart items entry items
 whole_part items entry = record { front = []; back = []; items_are = sym (append-nil items); before = λ rise. tt; behind = λ rise. tt }
 
 -- the entry's place
@@ -349,7 +349,7 @@ cell_among usable last shown cells k some inside split =
       ),
     )
 
-among_part : (items : List Item) (entry : List Value) (some : List Item) (item : Item) → IsPart items entry some → IsAmong some item → IsAmong items item
+pub among_part : (items : List Item) (entry : List Value) (some : List Item) (item : Item) → IsPart items entry some → IsAmong some item → IsAmong items item
 among_part items entry some item part among = record {
   front = part.front ++ among.front;
   back = among.back ++ part.back;
@@ -358,7 +358,7 @@ among_part items entry some item part among = record {
       ∙ sym (append_assoc part.front among.front (item ∷ (among.back ++ part.back)));
 }
 
-entry_item : (usable last : ℕ) (shown : Shown) (entry : List Value) (items : List Item) (level page total : ℕ) → Under false usable last shown (IsPart items entry) level page total
+pub entry_item : (usable last : ℕ) (shown : Shown) (entry : List Value) (items : List Item) (level page total : ℕ) → Under false usable last shown (IsPart items entry) level page total
     → (node : Node) → shown.node page ≡ Some node → (k : ℕ) → k < length node.cells → (item : Item) × (IsAmong items item × IsItem usable last shown (cell_at node k) item)
 entry_item usable last shown entry items level page total under node holds_node k inside = by_height under.height under.own under.some under.holds under.of
   where
@@ -407,7 +407,7 @@ entry_answers usable last most shown entry items way below total root list false
     entry_none usable last most shown entry items (length way) below total under ends
 
 -- an item whose payload is broken is no row
-no_row_in : (usable last : ℕ) (shown : Shown) (cell : NodeCell) (item : Item) (below : ℕ) (chain : List ℕ) (page : ℕ) → IsItem usable last shown cell item
+pub no_row_in : (usable last : ℕ) (shown : Shown) (cell : NodeCell) (item : Item) (below : ℕ) (chain : List ℕ) (page : ℕ) → IsItem usable last shown cell item
     → BreaksPayload usable last shown cell below chain page → IsNoRow usable last shown item
 no_row_in usable last shown cell item below chain page is_item (BreaksPayload.TooLarge none is large) = inr (cell, (is_item, large))
 no_row_in usable last shown cell item below chain page is_item (BreaksPayload.BreaksOff next left followed is some outside) =

@@ -80,6 +80,12 @@ pub record HasSought {P : Type 0} (pages : Ghosts P) (old : P) (node : Node) (be
   pub ends : (world : View) → pages.tells new world → EndsSeek (pages.usable old) (pages.last_page old) (shown_over pages old world) node below entry list result
   pub cause : IfErr result (IsCause (pages.faults old) (pages.faults new))
 
+-- a spot is a place among so many cells, or behind them
+abbrev pub IsSpotWithin : (count : ℕ) → Result Spot FetchFault → Type 0
+IsSpotWithin count (Ok At) = Unit {0}
+IsSpotWithin count (Ok (Before place)) = place ≤ count
+IsSpotWithin count (Err why) = Unit {0}
+
 -- How comparing one cell's row ended.
 abbrev pub EndsCompare : (usable last : ℕ) → Shown → NodeCell → (below : ℕ) → List Value → List ℕ → Result Ordering FetchFault → Type 0
 EndsCompare usable last shown cell below entry chain (Ok order) =

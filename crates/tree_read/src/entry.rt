@@ -4,7 +4,7 @@ ghost use Rattle.page_face.specs.Pages.{ReadsAtMost};
 ghost use Rattle.node_spec.specs.Cells.{NodeCell};
 ghost use Rattle.node_spec.specs.Nodes.{Node, cell_at};
 ghost use Rattle.page_form.specs.Reading.{IsReadPage};
-ghost use Rattle.tree_read.specs.Entries.{HasSought, HasCompared, HasSearched, FindsEntry, FailsEntry};
+ghost use Rattle.tree_read.specs.Entries.{IsSpotWithin, HasSought, HasCompared, HasSearched, FindsEntry, FailsEntry};
 
 use crate::node::{is_outside, read_node, usable_of};
 use crate::place::child_before;
@@ -111,12 +111,12 @@ fn search_with<P: Pages>(
     }
 }
 
-// Where an entry stands among the cells of a page.
+/// Where a key stands among the cells of a page.
 #[derive(Clone, Copy)]
-pub(crate) enum Spot {
-    // A cell has it.
+pub enum Spot {
+    /// A cell has it.
     At,
-    // None has it, and it stands before the cell of this place, or behind all.
+    /// None has it, and it stands before the cell of this place, or behind all.
     Before(usize),
 }
 
@@ -151,8 +151,11 @@ fn compare_cell<P: Pages>(
     }
 }
 
-// Looks for an entry among the cells of a page, whose rows rise, by halving. Where they don't rise it is still a place between two that fit.
-pub(crate) fn seek<P: Pages>(
+/// Looks for an entry among the cells of a page that was read, whose rows rise, by halving. Where they don't rise it is still a place between two that fit.
+///
+/// The pages of the chains of the cells that are compared are fetched into `room`, which has the bytes of one page. `Corrupt` names a page whose
+/// cell's payload is no record without a float, or has 2^32 bytes or more. `Disk` and `Memory` come from outside.
+pub fn seek<P: Pages>(
     alloc: Global,
     pages: &mut P,
     page: u32,
@@ -167,6 +170,7 @@ pub(crate) fn seek<P: Pages>(
     requires page { (shown : Node) × IsReadPage (P.usable pages.old) bytes.now node.now shown }
     ensures sought { (shown : Node) → IsReadPage (P.usable pages.old) bytes.now node.now shown
         → HasSought P.PagesTells pages.old shown page entry.now result pages.new }
+    ensures within { (shown : Node) → IsReadPage (P.usable pages.old) bytes.now node.now shown → IsSpotWithin (length shown.cells) result }
     ensures reading { ReadsAtMost P.PagesTells pages.old pages.new }
     ensures room { length room.new ≡ length room.old }
 {

@@ -13,7 +13,7 @@ mod place;
 mod row;
 mod way;
 
-pub use entry::find_entry;
+pub use entry::{Spot, find_entry, seek};
 pub use find::find_row;
 pub use last::last_row;
 pub use node::{is_outside, read_node, usable_of};

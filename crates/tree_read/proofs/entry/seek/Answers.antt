@@ -97,3 +97,6 @@ pub returns-clause-sought : goal.returns-clause-sought
 returns-clause-sought g c = λ shown read.
     is_between g.P.PagesTells c.args.pages.now c.halves.pages shown c.args.page c.args.entry.now c.halves.low c.halves.high c.halves.invariant.order
     (omega (arith, c.halves-test.false)) (c.halves.invariant.so_far shown read)
+
+pub returns-clause-within : goal.returns-clause-within
+returns-clause-within g c = λ shown read. omega (arith, c.halves.invariant.order, (c.halves.invariant.so_far shown read).most)
