@@ -39,7 +39,7 @@ leaf_down usable right cell one =
             (λ large. ap (u32_at key) (omega arith) ∙ sym (number_behind cell 4 (k + l)) ∙ ap (u32_at cell) (omega arith));
       };
       leads = refl;
-      small = omega (arith, length-drop 4 cell);
+      size_is = omega (arith, long, length-drop 4 cell);
     }
 
 -- the key behind another left child is a cell of an interior page
@@ -55,7 +55,7 @@ inner_index usable right cell text leads one =
       one = made.one;
       says = up.says right text (leads_as leads (sym same) refl);
       leads = made.left;
-      small = omega (arith, leads.long, length-drop 4 cell, long);
+      size_is = omega (arith, leads.long, length-drop 4 cell, long);
     }
 
 inner_table : (usable right : ℕ) (cell text : List ℕ) → LeadsTo right (drop 4 cell) text → IsOneCell TableInner usable cell → ComesDown TableInner usable (cell_in TableInner usable cell) right text
@@ -70,7 +70,7 @@ inner_table usable right cell text leads one =
       one = made.one;
       says = up.says right text (leads_as leads (sym same) refl);
       leads = made.left;
-      small = omega (arith, leads.long, length-drop 4 cell, long);
+      size_is = omega (arith, leads.long, length-drop 4 cell, long);
     }
 
 pub down_leaf : (kind : Kind) (usable right : ℕ) (cell text : List ℕ) → is_leaf kind ≡ true → is_leaf kind && is_table kind ≡ false → text ≡ drop 4 cell

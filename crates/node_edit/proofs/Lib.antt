@@ -8,3 +8,4 @@ mod Dividing
 mod RowCuts
 mod Crowds
 mod Crowding
+mod JoinedCuts

@@ -1,4 +1,4 @@
--- How much cells weigh at most: a cell of a page other than a leaf of a table less than half of page 1's room, any cell less than a page.
+-- How much cells weigh, and at most: a cell of a page other than a leaf of a table less than half of page 1's room, any cell less than a page.
 use Rattle.std.proofs.Common.{◌≡◌, ℕ, ◌+◌, ◌-◌, ◌*◌, ◌/◌, ◌<◌, ◌≤◌, ◌&&◌, max, Bool, true, false, nat_le, if◌then◌else◌, List, [], ◌∷◌, length, get_or, drop, All, refl, sym, ap, subst, ◌∙◌, inl, inr, arith}
 use Rattle.std.proofs.lemmas.Bool.{cases_lt}
 use Rattle.std.proofs.lemmas.Bool.Decides.{nat_tests}
@@ -151,3 +151,11 @@ pub one_heavy : (usable : ℕ) (texts : List (List ℕ)) → 480 ≤ usable → 
 one_heavy usable [] least news one = absurd (omega (arith, one))
 one_heavy usable (x ∷ []) least news one = omega (arith, weight_one (cell_in TableLeaf usable x), heavy usable x least (news 0 [] (omega arith)))
 one_heavy usable (x ∷ y ∷ rest) least news one = absurd (omega (arith, one))
+
+-- one cell, by its text
+pub weight_alone : (kind : Kind) (usable : ℕ) (texts : List (List ℕ)) (text : List ℕ) → length texts ≡ 1 → text ≡ get_or texts 0 []
+    → weight_of (spelled_by kind usable texts) ≡ max 4 (length text) + 2
+unfolding cell_in
+weight_alone kind usable [] text one is = absurd (omega (arith, one))
+weight_alone kind usable (x ∷ []) text one is = weight_one (cell_in kind usable x) ∙ ap (λ (t : List ℕ). max 4 (length t) + 2) (sym is)
+weight_alone kind usable (x ∷ y ∷ rest) text one is = absurd (omega (arith, one))

@@ -1,5 +1,5 @@
 -- How pages that have no room for some cells are divided, and the keys between their parts.
-use Rattle.std.specs.Prelude.{◌≡◌, ℕ, ◌+◌, ◌<◌, ◌≤◌, ◌&&◌, Bool, true, false, List, [], length, take, drop, All, Some}
+use Rattle.std.specs.Prelude.{◌≡◌, ℕ, ◌+◌, ◌<◌, ◌≤◌, ◌&&◌, Bool, true, false, List, [], ◌++◌, ◌⊎◌, length, take, drop, All, Some}
 use Rattle.node_spec.specs.declared.kinds.Kind.{Kind}
 use Rattle.node_spec.specs.declared.kinds.Kind.TheVariants.{TableInner}
 use Rattle.node_spec.specs.Kinds.{is_leaf, is_table, pointers_at}
@@ -53,6 +53,15 @@ pub record IsCrowded (usable : ℕ) (first : Bool) (node : Node) (at : ℕ) (new
   pub cells : All (IsOneCell node.kind usable) news
   pub lacks : free_of usable first node < weight_of (spelled_by node.kind usable news)
   pub few : ByLeafOfTable (is_leaf node.kind && is_table node.kind) ((first ≡ false) × (length news ≡ 1)) (length news ≤ 2)
+
+-- Two neighbours of a kind, one of which has no cell, have no room in the right one's page with the cells between them. Between leaves of a table is none.
+pub record LackRoom (usable : ℕ) (left right : Node) (between : List (List ℕ)) : Type 0 where
+  pub kind : right.kind ≡ left.kind
+  pub cells : All (IsOneCell left.kind usable) between
+  pub few : length between ≤ 2
+  pub rows : is_leaf left.kind && is_table left.kind ≡ true → between ≡ []
+  pub thin : (length left.cells ≡ 0) ⊎ (length right.cells ≡ 0)
+  pub lacks : free_of usable false right < weight_of (left.cells ++ spelled_by left.kind usable between)
 
 -- the node that the cells of a crowd make
 abbrev pub whole_of : Crowd → List NodeCell → Node

@@ -1,5 +1,5 @@
 -- Keys: what stands in the cells of interior pages behind the left child.
-use Rattle.std.specs.Prelude.{◌≡◌, ℕ, ◌+◌, ◌≤◌, if◌then◌else◌, List, length, drop}
+use Rattle.std.specs.Prelude.{◌≡◌, ℕ, ◌+◌, ◌-◌, max, if◌then◌else◌, List, length, drop}
 use Rattle.page_spec.specs.Bytes.{u32_at}
 use Rattle.node_spec.specs.declared.kinds.Kind.{Kind}
 use Rattle.node_spec.specs.declared.kinds.Kind.TheVariants.{IndexInner, TableInner, IndexLeaf, TableLeaf}
@@ -29,9 +29,13 @@ pub record IsCellAbove (kind : Kind) (usable page : ℕ) (text : List ℕ) : Typ
   pub one : IsOneCell kind usable text
   pub left : (cell_in kind usable text).left ≡ page
 
--- A text is a cell of the page above that came down to a page of a kind: it says the same, takes no more bytes, and leads to this child, on a leaf nowhere.
+-- How many bytes a cell of the page above takes on a page of a kind. On a leaf it has no left child, and at least 4 bytes.
+abbrev pub size_down : Kind → ℕ → ℕ
+size_down kind size = if is_leaf kind then max 4 (size - 4) else size
+
+-- A text is a cell of the page above that came down to a page of a kind: it says the same, and leads to this child, on a leaf nowhere.
 pub record ComesDown (kind : Kind) (usable : ℕ) (cell : NodeCell) (right : ℕ) (text : List ℕ) : Type 0 where
   pub one : IsOneCell kind usable text
   pub says : SaysSame cell (cell_in kind usable text)
   pub leads : (cell_in kind usable text).left ≡ (if is_leaf kind then 0 else right)
-  pub small : (cell_in kind usable text).size ≤ cell.size
+  pub size_is : (cell_in kind usable text).size ≡ size_down kind cell.size

@@ -1,14 +1,15 @@
 // Pages other than leaves of tables divided: the cell between the two parts goes up.
-ghost use Rattle.std.specs.Prelude.{◌≡◌, ℕ, ◌+◌, ◌≤◌, ◌<◌, ◌&&◌, List, length, IfOk, OnErr, false, if◌then◌else◌};
+ghost use Rattle.std.specs.Prelude.{◌≡◌, ℕ, ◌+◌, ◌≤◌, ◌<◌, ◌&&◌, List, length, IfOk, OnErr, Some, false, if◌then◌else◌};
 ghost use Rattle.page_spec.specs.Bytes.{u32_at};
 ghost use Rattle.node_spec.specs.Kinds.{is_leaf, is_table};
 ghost use Rattle.node_spec.specs.Cells.{NodeCell, IsOneCell};
+ghost use Rattle.node_spec.specs.Nodes.{Node, node_of, cell_at};
 ghost use Rattle.page_edit.specs.Forms.{KeepsOutside};
 ghost use Rattle.node_edit.specs.Runs.{IsRun, cell_of};
 ghost use Rattle.node_edit.specs.Dividing.{CutsBetween, ShowTwo, IsUpKey, body_in, whole_of};
 
 use crate::crowd::{Crowd, fill};
-use crate::run::{Run, reach, text_of};
+use crate::run::{Run, reach, taking, text_of};
 use be_fields::{get_u32, get_varint};
 use disk_face::Bytes;
 use page_form::{Kind, is_leaf};
@@ -33,6 +34,15 @@ fn body_of<'a>(text: &'a [u8], kind: Kind) -> &'a [u8]
         unreachable!()
     };
     &text[..size + payload as usize]
+}
+
+/// The key of a cell of a page other than a leaf of a table: what stands behind the left child of a cell of the page above that says the same. The error is
+/// want of memory.
+pub fn key_at(alloc: Global, bytes: &[u8], u: usize, first: bool, k: usize) -> Result<Bytes, AllocError>
+    requires shown { (node : Node) × (node_of u first bytes.now ≡ Some node) × (k < length node.cells) × (is_leaf node.kind && is_table node.kind ≡ false) }
+    ensures key { IfOk result (λ key. (node : Node) → node_of u first bytes.now ≡ Some node → IsUpKey node.kind u (cell_at node k) key) }
+{
+    up_key(alloc, taking(bytes, u, first, 0, &[]), k)
 }
 
 // The page number of the left child of a cell, 0 on a leaf.
@@ -73,9 +83,9 @@ pub(crate) fn divide_between(
     requires long { (crowd.run.u ≤ length left.old) × (crowd.run.u ≤ length bytes.old) }
     ensures parts { IfOk result (λ key. (cells : List NodeCell) → CutsBetween crowd.entry cells limit
         → ShowTwo crowd.entry.run.u crowd.entry.first (whole_of crowd.entry cells) key left.new bytes.new) }
-    ensures same { OnErr result (bytes.new ≡ bytes.old) }
+    ensures same { OnErr result ((left.new ≡ left.old) × (bytes.new ≡ bytes.old)) }
     ensures length { length left.new ≡ length left.old }
-    ensures rest { KeepsOutside crowd.entry.run.u crowd.entry.first bytes.old bytes.new }
+    ensures rest { KeepsOutside crowd.entry.run.u false left.old left.new × KeepsOutside crowd.entry.run.u crowd.entry.first bytes.old bytes.new }
 {
     let cut = reach(crowd.run, 0, crowd.count - 2, limit);
     let key = up_key(alloc, crowd.run, cut)?;

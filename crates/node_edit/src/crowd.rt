@@ -1,5 +1,5 @@
 // The cells of a page that has no room for them all, and parts of them made into pages.
-ghost use Rattle.std.specs.Prelude.{◌≡◌, ◌+◌, ◌*◌, ◌≤◌, Some, Bool, List, length, All};
+ghost use Rattle.std.specs.Prelude.{◌≡◌, ◌+◌, ◌*◌, ◌≤◌, ◌++◌, Some, Bool, false, List, length, All};
 ghost use Rattle.node_spec.specs.Cells.{NodeCell, IsOneCell};
 ghost use Rattle.node_spec.specs.Nodes.{Node, node_of};
 ghost use Rattle.page_edit.specs.Forms.{KeepsOutside};
@@ -10,7 +10,7 @@ ghost use Rattle.node_edit.specs.Dividing.{IsCrowd, PartFits, whole_of};
 
 use crate::head::{head_of, right_of};
 use crate::put::put_all;
-use crate::run::{Run, taking};
+use crate::run::{Run, joined, taking};
 use disk_face::Bytes;
 use page_edit::start_page;
 
@@ -50,6 +50,35 @@ pub(crate) fn crowd_of<'a>(
         count: head.count + news.len(),
         first,
         right: right_of(bytes, first, head.kind),
+    }
+}
+
+/// The cells of two neighbours of one kind with those between them, for the right one's node.
+pub(crate) fn crowd_joined<'a>(
+    left: &'a [u8],
+    between: &'a [Bytes],
+    right: &'a [u8],
+    u: usize,
+) -> Crowd<'a>
+    requires pages { (node : Node) × (node_of u false left.now ≡ Some node) × All (IsOneCell node.kind u) between.now
+        × ((other : Node) × (node_of u false right.now ≡ Some other) × (other.kind ≡ node.kind)) }
+    requires few { length between.now ≤ 65536 }
+    ensures usable { result.run.u ≡ u }
+    ensures page { result.first ≡ false }
+    ensures kind { (node : Node) → node_of u false left.now ≡ Some node → result.run.kind ≡ node.kind }
+    ensures crowd { (node other : Node) → node_of u false left.now ≡ Some node → node_of u false right.now ≡ Some other
+        → IsCrowd result (cells_with other.cells 0 (node.cells ++ spelled_by node.kind u between.now)) }
+    ensures whole { (node other : Node) → node_of u false left.now ≡ Some node → node_of u false right.now ≡ Some other → other.kind ≡ node.kind
+        → whole_of result (cells_with other.cells 0 (node.cells ++ spelled_by node.kind u between.now))
+        ≡ node_taking other 0 (node.cells ++ spelled_by node.kind u between.now) }
+{
+    let other = head_of(right, u, false);
+    let count = head_of(left, u, false).count + between.len() + other.count;
+    Crowd {
+        run: joined(left, between, right, u),
+        count,
+        first: false,
+        right: right_of(right, false, other.kind),
     }
 }
 

@@ -34,8 +34,8 @@ pub enum Divided {
     },
 }
 
-// Up to which weight the first part is filled: all of its page where cells are put at the end, as they are in rising order, else half of all.
-fn limit_of(crowd: Crowd<'_>, at_end: bool) -> usize
+/// Up to which weight the first part is filled: all of its page where cells are put at the end, as they are in rising order, else half of all.
+pub(crate) fn limit_of(crowd: Crowd<'_>, at_end: bool) -> usize
     requires crowd { (cells : List NodeCell) × IsCrowd crowd cells × (weight_of cells ≤ 131072) }
     ensures end { at_end ≡ true → result + pointers_at false crowd.entry.run.kind ≡ crowd.entry.run.u }
     ensures half { at_end ≡ false → (cells : List NodeCell) → IsCrowd crowd.entry cells → (2 * result ≤ weight_of cells) × (weight_of cells ≤ 2 * result + 1) }

@@ -31,6 +31,14 @@ pub(crate) fn head_of(bytes: &[u8], u: usize, first: bool) -> Head
     }
 }
 
+/// How many cells a page has that shows a node.
+pub fn count_of(bytes: &[u8], u: usize, first: bool) -> usize
+    requires shown { (node : Node) × (node_of u first bytes.now ≡ Some node) }
+    ensures count { (node : Node) → node_of u first bytes.now ≡ Some node → result ≡ length node.cells }
+{
+    head_of(bytes, u, first).count
+}
+
 /// The right child of a page that shows a node, 0 on a leaf.
 #[tactic(auto, unfolding(node_spec::specs::Nodes::right_in))]
 pub(crate) fn right_of(bytes: &[u8], first: bool, kind: Kind) -> u32

@@ -36,6 +36,8 @@ pub fn take_over(left: &[u8], between: &[Bytes], bytes: &mut [u8], u: usize) -> 
     requires few { length between.now ≤ 65536 }
     ensures put { result ≡ true → (node other : Node) → node_of u false left.now ≡ Some node → node_of u false bytes.old ≡ Some other
         → node_of u false bytes.new ≡ Some (node_taking other 0 (node.cells ++ spelled_by node.kind u between.now)) }
+    ensures room { result ≡ true → (node other : Node) → node_of u false left.now ≡ Some node → node_of u false bytes.old ≡ Some other
+        → weight_of (node.cells ++ spelled_by node.kind u between.now) ≤ free_of u false other }
     ensures lacks { result ≡ false → (node other : Node) → node_of u false left.now ≡ Some node → node_of u false bytes.old ≡ Some other
         → free_of u false other < weight_of (node.cells ++ spelled_by node.kind u between.now) }
     ensures same { result ≡ false → bytes.new ≡ bytes.old }

@@ -9,7 +9,7 @@ ghost use Rattle.node_edit.specs.Runs.{IsRun, HasRoom, part_of, weight_of, spell
 ghost use Rattle.node_edit.specs.Editing.{inner_node};
 
 use crate::head::head_of;
-use crate::run::{Run, listed, reach, taking, text_of};
+use crate::run::{Run, listed, reach, taking, text_in, text_of};
 use disk_face::Bytes;
 use page_edit::{put_cell, start_page};
 use page_form::Kind;
@@ -48,6 +48,24 @@ fn has_room<'a>(bytes: &'a [u8], u: usize, first: bool, at: usize, news: &'a [By
     reach(run, 0, all, u - head.pointers) == all
 }
 
+// Puts one cell in, or leaves the page as it is: its text is read once.
+fn put_one(bytes: &mut [u8], u: usize, first: bool, at: usize, news: &[Bytes]) -> bool
+    requires shown { (node : Node) × (node_of u first bytes.old ≡ Some node) × (at ≤ length node.cells) × All (IsOneCell node.kind u) news.now }
+    requires one { length news.now ≡ 1 }
+    ensures put { result ≡ true → (node : Node) → node_of u first bytes.old ≡ Some node
+        → node_of u first bytes.new ≡ Some (node_taking node at (spelled_by node.kind u news.now)) }
+    ensures room { result ≡ true → (node : Node) → node_of u first bytes.old ≡ Some node → weight_of (spelled_by node.kind u news.now) ≤ free_of u first node }
+    ensures lacks { result ≡ false → (node : Node) → node_of u first bytes.old ≡ Some node → free_of u first node < weight_of (spelled_by node.kind u news.now) }
+    ensures same { result ≡ false → bytes.new ≡ bytes.old }
+    ensures rest { KeepsOutside u first bytes.old bytes.new }
+{
+    let text = text_in(news, 0);
+    match put_cell(bytes, u, first, at, text) {
+        Ok(()) => true,
+        Err(_) => false,
+    }
+}
+
 /// Puts cells in before the cell at a place, where they fit with their pointers; else the page stays as it is, and the answer is false.
 ///
 /// Each text is just one cell of the page's kind; what a short one lacks to 4 bytes is filled up.
@@ -61,6 +79,9 @@ pub fn put_cells(bytes: &mut [u8], u: usize, first: bool, at: usize, news: &[Byt
     ensures same { result ≡ false → bytes.new ≡ bytes.old }
     ensures rest { KeepsOutside u first bytes.old bytes.new }
 {
+    if news.len() == 1 {
+        return put_one(bytes, u, first, at, news);
+    }
     if !has_room(bytes, u, first, at, news) {
         return false;
     }

@@ -59,8 +59,8 @@ fn text_at<'a>(bytes: &'a [u8], u: usize, kind: Kind, slot: usize) -> &'a [u8]
     &bytes[start..start + len]
 }
 
-// The text at a place of a list.
-fn text_in<'a>(texts: &'a [Bytes], k: usize) -> &'a [u8]
+/// The text at a place of a list.
+pub(crate) fn text_in<'a>(texts: &'a [Bytes], k: usize) -> &'a [u8]
     requires { k < length texts.now }
     ensures { result.now ≡ slice_index_or texts.now k [] }
 {
@@ -187,6 +187,7 @@ pub(crate) fn joined<'a>(left: &'a [u8], news: &'a [Bytes], right: &'a [u8], u: 
     requires left { (node : Node) × (node_of u false left.now ≡ Some node) × All (IsOneCell node.kind u) news.now
         × ((other : Node) × (node_of u false right.now ≡ Some other) × (other.kind ≡ node.kind)) }
     ensures usable { result.u ≡ u }
+    ensures kind { (node : Node) → node_of u false left.now ≡ Some node → result.kind ≡ node.kind }
     ensures run { (node other : Node) → node_of u false left.now ≡ Some node → node_of u false right.now ≡ Some other
         → IsRun result (cells_with other.cells 0 (node.cells ++ spelled_by node.kind u news.now)) }
 {

@@ -15,3 +15,6 @@ returns-clause-run c = λ node other shown beside.
     let g = c.head_of-other.ensures.head other beside in
     joined_is _ node other shown beside h.kind (subst (λ (n : Node). other.kind ≡ n.kind) same (subst (λ (n : Node). n.kind ≡ r.0.kind) same_other r.3.2))
     (subst (λ (n : Node). All (IsOneCell n.kind c.args.u) c.args.news.now) same r.2) h.pointers refl h.count g.pointers refl g.count
+
+pub returns-clause-kind : goal.returns-clause-kind
+returns-clause-kind c = λ node shown. (c.head_of-head.ensures.head node shown).kind
