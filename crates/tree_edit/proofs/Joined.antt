@@ -20,7 +20,7 @@ use Rattle.tree_spec.proofs.Lists.{times-append}
 use Rattle.overflow.specs.Following.{shown_over}
 use Rattle.edit_spec.specs.Nodes.{ByLeafOfTable, node_taking}
 use Rattle.edit_spec.specs.Joins.{Joins, JoinsRows, JoinsBetween}
-use Rattle.node_edit.specs.Keys.{kind_above, ComesDown}
+use Rattle.node_edit.specs.Keys.{kind_above, ComesDown, size_down}
 use Rattle.node_edit.specs.Runs.{weight_of, spelled_by}
 use Rattle.tree_edit.specs.declared.joining.Left.{Left}
 use Rattle.tree_edit.specs.Editing.{PageLists, EditsPages, lists_joined, reading, giving, storing}
@@ -106,7 +106,11 @@ lacks_of usable kind one two cell right texts same both child none spells lacks 
     by_case false (text, is, down) = (
       cell_in kind usable text,
       ap (λ (l : List (List ℕ)). spelled_by one.kind usable l) is ∙ ap (λ (k : Kind). cell_in k usable text ∷ []) (sym same),
-      record { says = down.says; leads = down.leads ∙ leads_right (is_leaf kind) right one.right child none; small = down.small },
+      record {
+        says = down.says;
+        leads = down.leads ∙ leads_right (is_leaf kind) right one.right child none;
+        size_is = down.size_is ∙ ap (λ (k : Kind). size_down k (cell_in (kind_above kind) usable cell).size) same;
+      },
     )
 
 -- pages that were read at most show the same

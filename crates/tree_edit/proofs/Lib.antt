@@ -5,3 +5,4 @@ pub mod Settled
 pub mod Sizes
 pub mod Rooted
 pub mod Joined
+pub mod Divided

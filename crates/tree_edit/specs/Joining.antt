@@ -1,5 +1,5 @@
 -- Neighbours under one page, joined in the right one's page.
-use Rattle.std.specs.Prelude.{◌≡◌, ◌⊎◌, ℕ, ◌<◌, ◌≤◌, ◌&&◌, Bool, true, false, List, [], ◌∷◌, ◌++◌, Some}
+use Rattle.std.specs.Prelude.{◌≡◌, ◌⊎◌, ℕ, ◌<◌, ◌&&◌, Bool, true, false, List, [], ◌∷◌, ◌++◌, Some}
 use Rattle.disk_face.specs.Faults.{Rose}
 use Rattle.page_spec.specs.View.{View}
 use Rattle.engine_spec.specs.declared.commits.FetchFault.{FetchFault}
@@ -13,7 +13,7 @@ use Rattle.node_spec.specs.Nodes.{Node, node_of, free_of}
 use Rattle.overflow.specs.Following.{shown_over}
 use Rattle.edit_spec.specs.Nodes.{SaysSame}
 use Rattle.edit_spec.specs.Joins.{Joins}
-use Rattle.node_edit.specs.Keys.{kind_above, ComesDown}
+use Rattle.node_edit.specs.Keys.{kind_above, ComesDown, size_down}
 use Rattle.node_edit.specs.Runs.{weight_of}
 use Rattle.tree_edit.specs.declared.joining.Left.{Left}
 use Rattle.tree_edit.specs.Editing.{EditsPages}
@@ -22,7 +22,7 @@ use Rattle.tree_edit.specs.Editing.{EditsPages}
 pub record IsDown (one : Node) (cell down : NodeCell) : Type 0 where
   pub says : SaysSame cell down
   pub leads : down.left ≡ one.right
-  pub small : down.size ≤ cell.size
+  pub size_is : down.size ≡ size_down one.kind cell.size
 
 -- the cells that come between two neighbours: none in leaves of tables, else the one above
 abbrev pub AreBetween : (rows : Bool) (one : Node) (cell : NodeCell) → List NodeCell → Type 0

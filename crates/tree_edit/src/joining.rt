@@ -130,7 +130,6 @@ fn join_in<P: EditPages>(
         Err(why) => return Err(why),
     };
     if !fits {
-        // Here the two would be divided anew between their pages.
         return Ok(false);
     }
     match store(alloc, pages, right, two) {
@@ -147,8 +146,8 @@ fn is_same(one: Kind, two: Kind) -> bool
     flag_of(one) == flag_of(two)
 }
 
-// Reads two neighbours of a tree into buffers.
-fn fetch_beside<P: EditPages>(
+/// Reads two neighbours of a tree into buffers.
+pub(crate) fn fetch_beside<P: EditPages>(
     alloc: Global,
     pages: &mut P,
     table: bool,
@@ -219,8 +218,12 @@ fn is_rows(kind: Kind) -> bool
     }
 }
 
-// The cells that come between two neighbours, as texts.
-fn cells_between(alloc: Global, told: Left, cell: &Bytes) -> Result<Vec<Bytes>, FetchFault>
+/// The cells that come between two neighbours, as texts.
+pub(crate) fn cells_between(
+    alloc: Global,
+    told: Left,
+    cell: &Bytes,
+) -> Result<Vec<Bytes>, FetchFault>
     requires cell { (usable : ℕ) × IsOneCell (kind_above told.kind) usable cell.now }
     ensures between { IfOk result (λ texts. (usable : ℕ) → IsOneCell (kind_above told.kind) usable cell.now
         → SpellBetween (is_leaf told.kind && is_table told.kind) told.kind usable cell.now told.right texts.items) }
