@@ -1,0 +1,9 @@
+mod Cells
+mod Since
+mod InLeaf
+mod Below
+mod Refused
+mod Descent
+mod Placed
+mod Rooted
+mod FirstPage
