@@ -4,172 +4,252 @@ ghost use Rattle.std.specs.Prelude.{◌≡◌, true, false, IfOk};
 use disk_face::{Disk, Failed, File, Salts, Sink, Source};
 use disk_mem::{Call, Fail, FixedSalts, Made, MemDisk, MemSink, MemSource};
 use std::alloc::{AllocError, Global};
-use std::test;
 
-#[test]
-fn pieces_are_bounded_and_one_call_fails(rt: HostRuntime) -> Result<(), test::Fail> {
-    let mut source = MemSource::new(b"abc".to_vec(rt.alloc())?, 2, Some(2));
+/// Pieces of at most two bytes, where the second call fails.
+fn gives(source: &mut MemSource) -> bool {
     let mut buf = [0; 4];
-    assert_eq!(rt; source.take(&mut buf), Ok(2));
-    assert_eq!(rt; source.take(&mut buf), Err(Failed));
-    assert_eq!(rt; source.take(&mut buf), Ok(1));
-    assert_eq!(rt; buf, *b"cb\0\0");
-    Ok(())
+    source.take(&mut buf) == Ok(2)
+        && source.take(&mut buf) == Err(Failed)
+        && source.take(&mut buf) == Ok(1)
+        && buf == *b"cb\0\0"
+}
+
+fn gives_pieces(alloc: Global) -> bool {
+    match b"abc".to_vec(alloc) {
+        Ok(bytes) => gives(&mut MemSource::new(bytes, 2, Some(2))),
+        Err(_) => false,
+    }
 }
 
 #[test]
-fn a_sink_keeps_what_is_put(rt: HostRuntime) -> Result<(), test::Fail> {
-    let mut sink = MemSink::new(rt.alloc(), 3, Some(2));
-    assert_eq!(rt; sink.put(b"abcd"), Ok(3));
-    assert_eq!(rt; sink.put(b"d"), Err(Failed));
-    assert_eq!(rt; sink.written(), b"abc".as_slice());
-    Ok(())
+fn pieces_are_bounded_and_one_call_fails(rt: HostRuntime) {
+    assert!(rt; gives_pieces(rt.alloc()));
+}
+
+fn keeps(sink: &mut MemSink) -> bool {
+    sink.put(b"abcd") == Ok(3)
+        && sink.put(b"d") == Err(Failed)
+        && sink.written() == b"abc".as_slice()
 }
 
 #[test]
-fn salts_are_given_in_turn_and_then_0(rt: HostRuntime) -> Result<(), test::Fail> {
-    let mut salts = FixedSalts::new([7].to_vec(rt.alloc())?);
-    assert_eq!(rt; salts.word(), 7);
-    assert_eq!(rt; salts.word(), 0);
-    Ok(())
+fn a_sink_keeps_what_is_put(rt: HostRuntime) {
+    assert!(rt; keeps(&mut MemSink::new(rt.alloc(), 3, Some(2))));
 }
 
-const SECOND_WRITE: Fail = Fail {
+fn are_in_turn(alloc: Global) -> bool {
+    match [7].to_vec(alloc) {
+        Ok(words) => {
+            let mut salts = FixedSalts::new(words);
+            salts.word() == 7 && salts.word() == 0
+        }
+        Err(_) => false,
+    }
+}
+
+#[test]
+fn salts_are_given_in_turn_and_then_0(rt: HostRuntime) {
+    assert!(rt; are_in_turn(rt.alloc()));
+}
+
+const SECOND_WRITE: Option<Fail> = Some(Fail {
     file: File::Main,
     call: Call::Write,
     nth: 2,
-};
+});
 
-const FIRST_SYNC: Fail = Fail {
+const FIRST_SYNC: Option<Fail> = Some(Fail {
     file: File::Log1,
     call: Call::Sync,
     nth: 1,
-};
+});
+
+/// A call, and whether it fails.
+#[derive(Clone, Copy)]
+enum Step {
+    Writes(File, u64, &'static [u8]),
+    Syncs(File),
+    WriteFails(File, u64, &'static [u8]),
+    SyncFails(File),
+}
+
+/// Calls on a main file `main` and empty logs, of which one may fail, the bytes that a crash picks, and the three files that it leaves.
+type Crash = (
+    Option<Fail>,
+    &'static [Step],
+    &'static [u8],
+    [&'static [u8]; 3],
+);
+
+const CRASHES: &[Crash] = &[
+    // One write, by how much is picked.
+    (
+        None,
+        &[Step::Writes(File::Log1, 0, b"abc")],
+        &[1, 2],
+        [b"main", b"\x01\x02c", b""],
+    ),
+    (
+        None,
+        &[Step::Writes(File::Log1, 0, b"abc")],
+        &[],
+        [b"main", b"abc", b""],
+    ),
+    // What is synced stands.
+    (
+        None,
+        &[
+            Step::Writes(File::Log1, 0, b"abc"),
+            Step::Syncs(File::Log1),
+            Step::Writes(File::Log1, 2, b"d"),
+        ],
+        b"xyz",
+        [b"main", b"abx", b""],
+    ),
+    // A sync of another file confirms nothing.
+    (
+        None,
+        &[Step::Writes(File::Log1, 0, b"abc"), Step::Syncs(File::Log2)],
+        b"xyz",
+        [b"main", b"xyz", b""],
+    ),
+    // Two ranges overlap.
+    (
+        None,
+        &[
+            Step::Writes(File::Main, 0, b"XX"),
+            Step::Writes(File::Main, 1, b"YY"),
+        ],
+        b"1234",
+        [b"123n", b"", b""],
+    ),
+    // A write makes the file longer.
+    (
+        None,
+        &[Step::Writes(File::Main, 3, b"Nex")],
+        b"12",
+        [b"mai12x", b"", b""],
+    ),
+    // The main file comes first, then the logs in turn.
+    (
+        None,
+        &[
+            Step::Writes(File::Log2, 0, b"l"),
+            Step::Writes(File::Main, 1, b"A"),
+            Step::Writes(File::Log1, 0, b"k"),
+        ],
+        b"123",
+        [b"m1in", b"2", b"3"],
+    ),
+    // Any bytes stand in the range of a write that fails.
+    (SECOND_WRITE, ONE_REFUSED, b"1234", [b"1234", b"", b""]),
+    // A write that fails changes nothing.
+    (SECOND_WRITE, ONE_REFUSED, b"", [b"MAin", b"", b""]),
+    // A sync that fails confirms nothing.
+    (
+        FIRST_SYNC,
+        &[
+            Step::Writes(File::Log1, 0, b"abc"),
+            Step::SyncFails(File::Log1),
+            Step::Writes(File::Log2, 0, b"d"),
+            Step::Syncs(File::Log2),
+        ],
+        b"xyzw",
+        [b"main", b"xyz", b"d"],
+    ),
+];
+
+const ONE_REFUSED: &[Step] = &[
+    Step::Writes(File::Main, 0, b"M"),
+    Step::WriteFails(File::Main, 2, b"IN"),
+    Step::Writes(File::Main, 1, b"A"),
+];
+
+/// Whether the disk leaves what the row says.
+fn is_right(alloc: Global, row: &Crash) -> bool {
+    let (failing, steps, pick, files) = *row;
+    match Trial::new(alloc, failing) {
+        Ok(mut trial) => trial.makes_all(steps) && trial.leaves(pick, files),
+        Err(_) => false,
+    }
+}
+
+/// The place of the first row that isn't right.
+fn first_wrong(alloc: Global) -> Option<usize> {
+    for at in 0..CRASHES.len() {
+        if !is_right(alloc, &CRASHES[at]) {
+            return Some(at);
+        }
+    }
+    None
+}
 
 #[test]
-fn a_crash_leaves_what_was_picked(rt: HostRuntime) -> Result<(), test::Fail> {
-    let alloc = rt.alloc();
-    assert!(rt; one_write(alloc, &[1, 2], b"main,\x01\x02c,")?);
-    assert!(rt; one_write(alloc, &[], b"main,abc,")?);
-    assert!(rt; synced_before_a_write(alloc)?, "what is synced stands");
-    assert!(rt;
-        another_synced(alloc)?,
-        "a sync of another file confirms nothing"
-    );
-    assert!(rt; overlapping(alloc)?, "two ranges overlap");
-    assert!(rt; longer(alloc)?, "a write makes the file longer");
-    assert!(rt;
-        in_all_files(alloc)?,
-        "the main file comes first, then the logs in turn"
-    );
-    assert!(rt;
-        refused(alloc, b"1234", b"1234,,")?,
-        "any bytes stand in the range of a write that fails"
-    );
-    assert!(rt;
-        refused(alloc, b"", b"MAin,,")?,
-        "a write that fails changes nothing"
-    );
-    assert!(rt; unsynced(alloc)?, "a sync that fails confirms nothing");
-    Ok(())
+fn a_crash_leaves_what_was_picked(rt: HostRuntime) {
+    assert_eq!(rt; first_wrong(rt.alloc()), None);
 }
 
-fn one_write(alloc: Global, pick: &[u8], want: &[u8]) -> Result<bool, Failed> {
-    let mut trial = Trial::new(alloc, None)?;
-    trial.write(File::Log1, 0, b"abc")?;
-    trial.leaves(alloc, pick, want)
+const fn made(call: Call, failed: bool) -> Made {
+    Made {
+        file: File::Main,
+        call,
+        failed,
+    }
 }
 
-fn synced_before_a_write(alloc: Global) -> Result<bool, Failed> {
-    let mut trial = Trial::new(alloc, None)?;
-    trial.write(File::Log1, 0, b"abc")?;
-    trial.sync(File::Log1)?;
-    trial.write(File::Log1, 2, b"d")?;
-    trial.leaves(alloc, b"xyz", b"main,abx,")
+/// The calls up to the first one that it stops.
+fn has_made(disk: &MemDisk) -> bool {
+    let all = [
+        made(Call::Attach, false),
+        made(Call::Journal, false),
+        made(Call::Journal, false),
+        made(Call::Size, false),
+        made(Call::Size, true),
+    ];
+    disk.calls() == 5 && disk.made() == all.as_slice()
 }
 
-fn another_synced(alloc: Global) -> Result<bool, Failed> {
-    let mut trial = Trial::new(alloc, None)?;
-    trial.write(File::Log1, 0, b"abc")?;
-    trial.sync(File::Log2)?;
-    trial.leaves(alloc, b"xyz", b"main,xyz,")
-}
-
-fn overlapping(alloc: Global) -> Result<bool, Failed> {
-    let mut trial = Trial::new(alloc, None)?;
-    trial.write(File::Main, 0, b"XX")?;
-    trial.write(File::Main, 1, b"YY")?;
-    trial.leaves(alloc, b"1234", b"123n,,")
-}
-
-fn longer(alloc: Global) -> Result<bool, Failed> {
-    let mut trial = Trial::new(alloc, None)?;
-    trial.write(File::Main, 3, b"Nex")?;
-    trial.leaves(alloc, b"12", b"mai12x,,")
-}
-
-fn in_all_files(alloc: Global) -> Result<bool, Failed> {
-    let mut trial = Trial::new(alloc, None)?;
-    trial.write(File::Log2, 0, b"l")?;
-    trial.write(File::Main, 1, b"A")?;
-    trial.write(File::Log1, 0, b"k")?;
-    trial.leaves(alloc, b"123", b"m1in,2,3")
-}
-
-fn refused(alloc: Global, pick: &[u8], want: &[u8]) -> Result<bool, Failed> {
-    let mut trial = Trial::new(alloc, Some(SECOND_WRITE))?;
-    trial.write(File::Main, 0, b"M")?;
-    let _ = trial.write(File::Main, 2, b"IN");
-    trial.write(File::Main, 1, b"A")?;
-    trial.leaves(alloc, pick, want)
-}
-
-fn unsynced(alloc: Global) -> Result<bool, Failed> {
-    let mut trial = Trial::new(alloc, Some(FIRST_SYNC))?;
-    trial.write(File::Log1, 0, b"abc")?;
-    let _ = trial.sync(File::Log1);
-    trial.write(File::Log2, 0, b"d")?;
-    trial.sync(File::Log2)?;
-    trial.leaves(alloc, b"xyzw", b"main,xyz,d")
-}
-
-fn made(file: File, call: Call, failed: bool) -> Made {
-    Made { file, call, failed }
-}
-
-#[test]
-fn a_disk_stops_where_it_is_told(rt: HostRuntime) -> Result<(), test::Fail> {
-    let mut trial = Trial::new(rt.alloc(), None)?;
-    assert_eq!(rt; trial.journal(), Ok(false));
+fn stops_after_two(trial: &mut Trial) -> bool {
     trial.disk.set_journal(true);
     trial.disk.stop_after(2);
-    assert_eq!(rt; trial.journal(), Ok(true));
-    assert_eq!(rt; trial.size(), Ok(4));
-    assert_eq!(rt; trial.size(), Err(Failed));
-    assert_eq!(rt; trial.disk.calls(), 5);
-    assert_eq!(rt;
-        trial.disk.made(),
-        [
-            made(File::Main, Call::Attach, false),
-            made(File::Main, Call::Journal, false),
-            made(File::Main, Call::Journal, false),
-            made(File::Main, Call::Size, false),
-            made(File::Main, Call::Size, true),
-        ]
-        .as_slice()
-    );
+    trial.journal() == Ok(true) && trial.size() == Ok(4) && trial.size() == Err(Failed)
+}
+
+fn stops_at_once(trial: &mut Trial) -> bool {
     trial.disk.stop_after(0);
-    assert_eq!(rt; trial.journal(), Err(Failed));
-    Ok(())
+    trial.journal() == Err(Failed)
+}
+
+fn stops(alloc: Global) -> bool {
+    match Trial::new(alloc, None) {
+        Ok(mut trial) => {
+            trial.journal() == Ok(false)
+                && stops_after_two(&mut trial)
+                && has_made(&trial.disk)
+                && stops_at_once(&mut trial)
+        }
+        Err(_) => false,
+    }
 }
 
 #[test]
-fn a_disk_reads_what_it_holds(rt: HostRuntime) -> Result<(), test::Fail> {
-    let mut trial = Trial::new(rt.alloc(), None)?;
-    let mut buf = [0; 2];
-    assert!(rt; trial.read(1, &mut buf));
-    assert_eq!(rt; buf, *b"ai");
-    Ok(())
+fn a_disk_stops_where_it_is_told(rt: HostRuntime) {
+    assert!(rt; stops(rt.alloc()));
+}
+
+fn reads(alloc: Global) -> bool {
+    match Trial::new(alloc, None) {
+        Ok(mut trial) => {
+            let mut buf = [0; 2];
+            trial.read(1, &mut buf) && buf == *b"ai"
+        }
+        Err(_) => false,
+    }
+}
+
+#[test]
+fn a_disk_reads_what_it_holds(rt: HostRuntime) {
+    assert!(rt; reads(rt.alloc()));
 }
 
 // A disk whose files are named.
@@ -227,25 +307,33 @@ impl Trial {
         self.disk.journal()
     }
 
-    // Whether a crash leaves these three files, given with commas between them.
-    fn leaves(&self, alloc: Global, pick: &[u8], want: &[u8]) -> Result<bool, Failed> {
-        match self.disk.crash(pick) {
-            Ok(left) => is_joined(&left, alloc, want).or(Err(Failed)),
-            Err(_) => Err(Failed),
+    fn makes(&mut self, step: Step) -> bool {
+        match step {
+            Step::Writes(file, at, piece) => self.write(file, at, piece).is_ok(),
+            Step::Syncs(file) => self.sync(file).is_ok(),
+            Step::WriteFails(file, at, piece) => self.write(file, at, piece).is_err(),
+            Step::SyncFails(file) => self.sync(file).is_err(),
         }
     }
-}
 
-fn is_joined(disk: &MemDisk, alloc: Global, want: &[u8]) -> Result<bool, AllocError> {
-    let files = joined(disk, alloc)?;
-    Ok(files.as_slice() == want)
-}
+    fn makes_all(&mut self, steps: &[Step]) -> bool {
+        for step in steps {
+            if !self.makes(*step) {
+                return false;
+            }
+        }
+        true
+    }
 
-fn joined(disk: &MemDisk, alloc: Global) -> Result<Vec<u8>, AllocError> {
-    let mut files = disk.file(File::Main).to_vec(alloc)?;
-    files.extend_from_slice(b",")?;
-    files.extend_from_slice(disk.file(File::Log1))?;
-    files.extend_from_slice(b",")?;
-    files.extend_from_slice(disk.file(File::Log2))?;
-    Ok(files)
+    // Whether a crash leaves these three files.
+    fn leaves(&self, pick: &[u8], files: [&[u8]; 3]) -> bool {
+        match self.disk.crash(pick) {
+            Ok(left) => {
+                left.file(File::Main) == files[0]
+                    && left.file(File::Log1) == files[1]
+                    && left.file(File::Log2) == files[2]
+            }
+            Err(_) => false,
+        }
+    }
 }

@@ -1,20 +1,22 @@
 // Real files, as this system has them.
-use crate::room::{attaches, empty_folder, holds, remove_folder, writes};
+use crate::room::{attaches, empties, holds, is_missing, makes_file, removes, writes};
 use disk_face::{Disk, Failed, File, Salts};
 use disk_real::{FileDisk, NumberSalts};
+use std::fs;
 use std::fs::{OpenOptions, Permissions};
 use std::os::unix::fs::PermissionsExt;
-use std::test::Fail;
-use std::{fs, io};
 
 #[test]
-fn real_files_keep_what_is_written(rt: HostRuntime) -> Result<(), Fail> {
-    empty_folder(&rt, "t_keep")?;
-    assert!(rt; keeps(&rt));
-    assert!(rt; holds(&rt, "t_keep/db-wal", b"abdefg")?);
-    assert!(rt; has_kept(&rt));
-    remove_folder(&rt, "t_keep")?;
-    Ok(())
+fn real_files_keep_what_is_written(rt: HostRuntime) {
+    assert!(rt; keeps_all(&rt));
+}
+
+fn keeps_all(rt: &HostRuntime) -> bool {
+    empties(rt, "t_keep")
+        && keeps(rt)
+        && holds(rt, "t_keep/db-wal", b"abdefg")
+        && has_kept(rt)
+        && removes(rt, "t_keep")
 }
 
 // A log is written, read and synced, and nothing is read that isn't there.
@@ -51,21 +53,28 @@ fn has_kept(rt: &HostRuntime) -> bool {
 }
 
 #[test]
-fn a_journal_is_hot_where_its_first_byte_is_not_0(rt: HostRuntime) -> Result<(), Fail> {
-    empty_folder(&rt, "t_journal")?;
-    assert_eq!(rt; hot(&rt)?, false, "missing");
-    for (bytes, is_hot) in [(b"".as_slice(), false), (b"\0hot", false), (b"hot", true)] {
-        fs::write(&rt, "t_journal/db-journal", bytes)?;
-        assert_eq!(rt; hot(&rt)?, is_hot);
-    }
-    remove_folder(&rt, "t_journal")?;
-    Ok(())
+fn a_journal_is_hot_where_its_first_byte_is_not_0(rt: HostRuntime) {
+    assert!(rt; is_hot_by_its_first_byte(&rt));
 }
 
-fn hot(rt: &HostRuntime) -> Result<bool, Failed> {
+// A journal that is missing isn't hot.
+fn is_hot_by_its_first_byte(rt: &HostRuntime) -> bool {
+    empties(rt, "t_journal")
+        && tells(rt, false)
+        && tells_of(rt, b"", false)
+        && tells_of(rt, b"\0hot", false)
+        && tells_of(rt, b"hot", true)
+        && removes(rt, "t_journal")
+}
+
+fn tells_of(rt: &HostRuntime, journal: &[u8], is_hot: bool) -> bool {
+    makes_file(rt, "t_journal/db-journal", journal) && tells(rt, is_hot)
+}
+
+// Whether the disk tells so of the journal.
+fn tells(rt: &HostRuntime, is_hot: bool) -> bool {
     let mut disk = FileDisk::new(rt, rt.alloc());
-    disk.attach(b"t_journal/db")?;
-    disk.journal()
+    disk.attach(b"t_journal/db").is_ok() && disk.journal() == Ok(is_hot)
 }
 
 #[test]
@@ -75,27 +84,33 @@ fn a_name_that_is_no_text_is_refused(rt: HostRuntime) {
 }
 
 #[test]
-fn a_file_that_cannot_be_written_is_refused(rt: HostRuntime) -> Result<(), Fail> {
+fn a_file_that_cannot_be_written_is_refused(rt: HostRuntime) {
     // A program that runs can be read and not written, also by root.
     assert!(rt; !attaches(&rt, "/proc/self/exe"));
-    empty_folder(&rt, "t_read_only")?;
-    fs::write(&rt, "t_read_only/db", b"".as_slice())?;
-    fs::write(&rt, "t_read_only/db-wal", b"".as_slice())?;
-    assert!(rt; is_as_allowed(&rt, "t_read_only/db")?);
-    assert!(rt; is_as_allowed(&rt, "t_read_only/db-wal")?);
-    assert!(rt; attaches(&rt, "t_read_only/db"), "once it can be");
-    remove_folder(&rt, "t_read_only")?;
-    Ok(())
+    assert!(rt; is_refused_read_only(&rt));
+}
+
+// It is taken once its files can be written.
+fn is_refused_read_only(rt: &HostRuntime) -> bool {
+    empties(rt, "t_read_only")
+        && makes_file(rt, "t_read_only/db", b"")
+        && makes_file(rt, "t_read_only/db-wal", b"")
+        && is_as_allowed(rt, "t_read_only/db")
+        && is_as_allowed(rt, "t_read_only/db-wal")
+        && attaches(rt, "t_read_only/db")
+        && removes(rt, "t_read_only")
 }
 
 // Whether the database can be attached exactly where this file of it, made read only, can be written. Root may write it all the
 // same.
-fn is_as_allowed(rt: &HostRuntime, name: &str) -> io::Result<bool> {
-    fs::set_permissions(rt, name, Permissions::from_mode(0o444))?;
-    let is_writable = opens(rt, name);
-    let is_attached = attaches(rt, "t_read_only/db");
-    fs::set_permissions(rt, name, Permissions::from_mode(0o644))?;
-    Ok(is_attached == is_writable)
+fn is_as_allowed(rt: &HostRuntime, name: &str) -> bool {
+    permits(rt, name, 0o444)
+        && attaches(rt, "t_read_only/db") == opens(rt, name)
+        && permits(rt, name, 0o644)
+}
+
+fn permits(rt: &HostRuntime, name: &str, mode: u32) -> bool {
+    fs::set_permissions(rt, name, Permissions::from_mode(mode)).is_ok()
 }
 
 fn opens(rt: &HostRuntime, name: &str) -> bool {
@@ -105,12 +120,15 @@ fn opens(rt: &HostRuntime, name: &str) -> bool {
 }
 
 #[test]
-fn a_database_has_one_holder(rt: HostRuntime) -> Result<(), Fail> {
-    empty_folder(&rt, "t_lock")?;
-    fs::write(&rt, "t_lock/db", b"main".as_slice())?;
-    assert!(rt; has_one_holder(&rt));
-    remove_folder(&rt, "t_lock")?;
-    Ok(())
+fn a_database_has_one_holder(rt: HostRuntime) {
+    assert!(rt; is_held_once(&rt));
+}
+
+fn is_held_once(rt: &HostRuntime) -> bool {
+    empties(rt, "t_lock")
+        && makes_file(rt, "t_lock/db", b"main")
+        && has_one_holder(rt)
+        && removes(rt, "t_lock")
 }
 
 // The second one can attach it once the first one is gone.
@@ -124,13 +142,16 @@ fn has_one_holder(rt: &HostRuntime) -> bool {
 }
 
 #[test]
-fn a_new_database_is_held_by_who_writes_first(rt: HostRuntime) -> Result<(), Fail> {
-    empty_folder(&rt, "t_new")?;
-    assert!(rt; is_late(&rt));
-    assert!(rt; !fs::exists(&rt, "t_new/db-wal2")?);
-    assert!(rt; holds(&rt, "t_new/db-wal", b"first")?);
-    remove_folder(&rt, "t_new")?;
-    Ok(())
+fn a_new_database_is_held_by_who_writes_first(rt: HostRuntime) {
+    assert!(rt; is_held_by_the_first(&rt));
+}
+
+fn is_held_by_the_first(rt: &HostRuntime) -> bool {
+    empties(rt, "t_new")
+        && is_late(rt)
+        && is_missing(rt, "t_new/db-wal2")
+        && holds(rt, "t_new/db-wal", b"first")
+        && removes(rt, "t_new")
 }
 
 // Both find no database. Who is late fails, also once the other one is gone.
@@ -145,16 +166,19 @@ fn is_late(rt: &HostRuntime) -> bool {
 }
 
 #[test]
-fn a_log_takes_the_permissions_of_its_database(rt: HostRuntime) -> Result<(), Fail> {
-    for mode in [0o600, 0o640, 0o666] {
-        empty_folder(&rt, "t_mode")?;
-        fs::write(&rt, "t_mode/db", b"main".as_slice())?;
-        fs::set_permissions(&rt, "t_mode/db", Permissions::from_mode(mode))?;
-        assert!(rt; makes_logs(&rt));
-        assert_eq!(rt; mode_of(&rt, "t_mode/db-wal")?, mode);
-        assert_eq!(rt; mode_of(&rt, "t_mode/db-wal2")?, mode);
-    }
-    Ok(())
+fn a_log_takes_the_permissions_of_its_database(rt: HostRuntime) {
+    assert!(rt; takes_mode(&rt, 0o600));
+    assert!(rt; takes_mode(&rt, 0o640));
+    assert!(rt; takes_mode(&rt, 0o666));
+}
+
+fn takes_mode(rt: &HostRuntime, mode: u32) -> bool {
+    empties(rt, "t_mode")
+        && makes_file(rt, "t_mode/db", b"main")
+        && permits(rt, "t_mode/db", mode)
+        && makes_logs(rt)
+        && has_mode(rt, "t_mode/db-wal", mode)
+        && has_mode(rt, "t_mode/db-wal2", mode)
 }
 
 fn makes_logs(rt: &HostRuntime) -> bool {
@@ -164,17 +188,21 @@ fn makes_logs(rt: &HostRuntime) -> bool {
         && writes(&mut disk, File::Log2, b"b")
 }
 
-fn mode_of(rt: &HostRuntime, path: &str) -> io::Result<u32> {
-    Ok(fs::metadata(rt, path)?.permissions().mode() & 0o777)
+fn has_mode(rt: &HostRuntime, path: &str, mode: u32) -> bool {
+    match fs::metadata(rt, path) {
+        Ok(data) => data.permissions().mode() & 0o777 == mode,
+        Err(_) => false,
+    }
 }
 
 // No file goes on so far.
 #[test]
-fn a_write_that_the_system_refuses_is_a_failure(rt: HostRuntime) -> Result<(), Fail> {
-    empty_folder(&rt, "t_refused")?;
-    assert!(rt; is_refused_far(&rt));
-    remove_folder(&rt, "t_refused")?;
-    Ok(())
+fn a_write_that_the_system_refuses_is_a_failure(rt: HostRuntime) {
+    assert!(rt; fails_far(&rt));
+}
+
+fn fails_far(rt: &HostRuntime) -> bool {
+    empties(rt, "t_refused") && is_refused_far(rt) && removes(rt, "t_refused")
 }
 
 fn is_refused_far(rt: &HostRuntime) -> bool {

@@ -1,27 +1,52 @@
 // A folder for the files of one test, and calls of disks in few words.
 use disk_face::{Disk, File};
 use disk_real::FileDisk;
+use std::fs;
 use std::io::ErrorKind;
-use std::{fs, io};
+use std::os::unix::fs::symlink;
 
-/// An empty folder of this name.
-pub(crate) fn empty_folder(rt: &HostRuntime, folder: &str) -> io::Result<()> {
-    remove_folder(rt, folder)?;
-    fs::create_dir(rt, folder)
+/// Whether there is an empty folder of this name now.
+pub(crate) fn empties(rt: &HostRuntime, folder: &str) -> bool {
+    removes(rt, folder) && makes_folder(rt, folder)
 }
 
-/// The folder and what is in it go.
-pub(crate) fn remove_folder(rt: &HostRuntime, folder: &str) -> io::Result<()> {
+/// Whether the folder and what is in it are gone.
+pub(crate) fn removes(rt: &HostRuntime, folder: &str) -> bool {
     match fs::remove_dir_all(rt, folder) {
-        Err(error) if error.kind() == ErrorKind::NotFound => Ok(()),
-        answer => answer,
+        Ok(()) => true,
+        Err(error) => error.kind() == ErrorKind::NotFound,
+    }
+}
+
+/// Whether a folder was made.
+pub(crate) fn makes_folder(rt: &HostRuntime, folder: &str) -> bool {
+    fs::create_dir(rt, folder).is_ok()
+}
+
+/// Whether a file was made that holds these bytes.
+pub(crate) fn makes_file(rt: &HostRuntime, path: &str, bytes: &[u8]) -> bool {
+    fs::write(rt, path, bytes).is_ok()
+}
+
+/// Whether a symbolic link to that name was made.
+pub(crate) fn links(rt: &HostRuntime, target: &str, path: &str) -> bool {
+    symlink(rt, target, path).is_ok()
+}
+
+/// Whether nothing has this name.
+pub(crate) fn is_missing(rt: &HostRuntime, path: &str) -> bool {
+    match fs::exists(rt, path) {
+        Ok(is_there) => !is_there,
+        Err(_) => false,
     }
 }
 
 /// Whether the file holds these bytes and no others.
-pub(crate) fn holds(rt: &HostRuntime, path: &str, bytes: &[u8]) -> io::Result<bool> {
-    let content = fs::read(rt, path)?;
-    Ok(content.as_slice() == bytes)
+pub(crate) fn holds(rt: &HostRuntime, path: &str, bytes: &[u8]) -> bool {
+    match fs::read(rt, path) {
+        Ok(content) => content.as_slice() == bytes,
+        Err(_) => false,
+    }
 }
 
 /// Whether a database can be attached by this name.

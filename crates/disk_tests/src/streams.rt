@@ -5,7 +5,6 @@ use std::cell::{Cell, RefCell};
 use std::fmt::Display;
 use std::io;
 use std::io::{ErrorKind, Read};
-use std::test::Fail;
 
 /// What one call of a stand-in does.
 #[derive(Clone, Copy)]
@@ -68,7 +67,7 @@ impl Print for Output {
 }
 
 #[test]
-fn a_put_is_one_write_that_is_made(rt: HostRuntime) -> Result<(), Fail> {
+fn a_put_is_one_write_that_is_made(rt: HostRuntime) {
     let output = Output {
         turns: Turns {
             turns: [
@@ -81,14 +80,16 @@ fn a_put_is_one_write_that_is_made(rt: HostRuntime) -> Result<(), Fail> {
         },
         taken: RefCell::new(Vec::new(rt.alloc())),
     };
-    let mut sink = StdSink::new(&output);
-    assert_eq!(rt; sink.put(b"abc"), Ok(1));
-    assert_eq!(rt; sink.put(b"bc"), Err(Failed));
-    assert_eq!(rt; sink.put(b"bc"), Ok(2));
-    assert_eq!(rt; sink.put(b"d"), Err(Failed), "nothing is taken");
-    drop(sink);
-    assert_eq!(rt; output.taken.into_inner().as_slice(), b"abc".as_slice());
-    Ok(())
+    assert!(rt; puts(&mut StdSink::new(&output)));
+    assert!(rt; output.taken.into_inner().as_slice() == b"abc".as_slice());
+}
+
+/// At last nothing is taken, which is a failure.
+fn puts<S: Sink>(sink: &mut S) -> bool {
+    sink.put(b"abc") == Ok(1)
+        && sink.put(b"bc") == Err(Failed)
+        && sink.put(b"bc") == Ok(2)
+        && sink.put(b"d") == Err(Failed)
 }
 
 /// A reader that gives what its turns say.
@@ -127,11 +128,15 @@ fn a_take_is_one_read_that_is_made(rt: HostRuntime) {
         left: b"abc",
     };
     let mut buf = *b"......";
-    assert_eq!(rt; take_from(&mut reader, &mut buf).ok(), Some(1));
-    assert!(rt; take_from(&mut reader, &mut buf).is_err());
-    assert_eq!(rt; take_from(&mut reader, &mut buf[1..]).ok(), Some(2));
-    assert_eq!(rt; buf, *b"abc...");
-    assert_eq!(rt; take_from(&mut reader, &mut buf).ok(), Some(0), "the end");
+    assert!(rt; takes(&mut reader, &mut buf));
+    assert!(rt; buf == *b"abc...");
+    assert!(rt; take_from(&mut reader, &mut buf).ok() == Some(0));
+}
+
+fn takes(reader: &mut Giver, buf: &mut [u8; 6]) -> bool {
+    take_from(reader, buf).ok() == Some(1)
+        && take_from(reader, buf).is_err()
+        && take_from(reader, &mut buf[1..]).ok() == Some(2)
 }
 
 #[test]

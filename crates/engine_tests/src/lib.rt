@@ -7,6 +7,8 @@ mod first_page;
 #[cfg(test)]
 mod lines;
 #[cfg(test)]
+mod shared;
+#[cfg(test)]
 mod shelf;
 #[cfg(test)]
 mod sizes;
