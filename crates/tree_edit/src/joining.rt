@@ -76,6 +76,7 @@ pub fn join_left<P: EditPages>(
     requires right { (2 ≤ right) × (right ≤ P.last_page pages.old) }
     requires cell { IsOneCell (inner_kind table) (P.usable pages.old) cell.now }
     ensures joined { IfOk result (JoinsOrLacks P.PagesTells pages.old left right [] (cell_in (inner_kind table) (P.usable pages.old) cell.now) pages.new) }
+    ensures read { IfOk result (λ joined. joined ≡ false → (n : ℕ) → Contains (P.reads pages.new) n → Contains (P.reads pages.old) n ⊎ (1 ≤ times (left ∷ (right ∷ [])) n)) }
     ensures cause { IfErr result (BarsJoining P.PagesTells pages.old table left right pages.new) }
     ensures last { P.last_page pages.new ≡ P.last_page pages.old }
     ensures edits { Editing P.PagesTells pages.old pages.new }
@@ -117,6 +118,7 @@ fn join_in<P: EditPages>(
     requires cell { IsOneCell (inner_kind table) (P.usable pages.old) cell.now }
     requires room { (length one.old ≡ P.page_size pages.old) × (length two.old ≡ P.page_size pages.old) }
     ensures joined { IfOk result (JoinsOrLacks P.PagesTells pages.old left right [] (cell_in (inner_kind table) (P.usable pages.old) cell.now) pages.new) }
+    ensures read { IfOk result (λ joined. joined ≡ false → (n : ℕ) → Contains (P.reads pages.new) n → Contains (P.reads pages.old) n ⊎ (1 ≤ times (left ∷ (right ∷ [])) n)) }
     ensures cause { IfErr result (BarsJoining P.PagesTells pages.old table left right pages.new) }
     ensures last { P.last_page pages.new ≡ P.last_page pages.old }
     ensures edits { Editing P.PagesTells pages.old pages.new }

@@ -1,9 +1,10 @@
 // Roots that grow by a level, and that lose one.
-ghost use Rattle.std.specs.Prelude.{◌≡◌, ◌⊎◌, ℕ, Bool, ◌+◌, ◌<◌, ◌≤◌, ◌==◌, [], ◌∷◌, length, All, OnOk, IfOk, IfErr, Some, true, false};
+ghost use Rattle.std.specs.Prelude.{◌≡◌, ◌⊎◌, ℕ, Bool, ◌+◌, ◌<◌, ◌≤◌, ◌==◌, [], ◌∷◌, length, All, Contains, OnOk, IfOk, IfErr, Some, true, false};
 ghost use Rattle.page_spec.specs.View.{View};
 ghost use Rattle.page_face.specs.Pages.{Editing, ReadsAtMost, IsFromOutside};
 ghost use Rattle.node_spec.specs.Cells.{IsOneCell};
 ghost use Rattle.node_spec.specs.Nodes.{Node, node_of};
+ghost use Rattle.tree_spec.specs.Layout.{times};
 ghost use Rattle.overflow.specs.Following.{shown_over};
 ghost use Rattle.overflow.specs.Writing.{BarsWriting};
 ghost use Rattle.node_edit.specs.Runs.{spelled_by};
@@ -174,6 +175,7 @@ pub fn lower_root<P: EditPages>(
     requires root { (1 ≤ root) × (root ≤ P.last_page pages.old) }
     requires child { (2 ≤ child) × (child ≤ P.last_page pages.old) }
     ensures lowered { IfOk result (LowersRoot P.PagesTells pages.old root child pages.new) }
+    ensures read { IfOk result (λ lowered. lowered ≡ false → (n : ℕ) → Contains (P.reads pages.new) n → Contains (P.reads pages.old) n ⊎ (1 ≤ times (child ∷ []) n)) }
     ensures cause { IfErr result (HoldsNone P.PagesTells pages.old child pages.new) }
     ensures last { P.last_page pages.new ≡ P.last_page pages.old }
     ensures edits { Editing P.PagesTells pages.old pages.new }
@@ -198,6 +200,7 @@ fn lower_in<P: EditPages>(
     requires child { (2 ≤ child) × (child ≤ P.last_page pages.old) }
     requires room { length copy.old ≡ P.page_size pages.old }
     ensures lowered { IfOk result (LowersRoot P.PagesTells pages.old root child pages.new) }
+    ensures read { IfOk result (λ lowered. lowered ≡ false → (n : ℕ) → Contains (P.reads pages.new) n → Contains (P.reads pages.old) n ⊎ (1 ≤ times (child ∷ []) n)) }
     ensures cause { IfErr result (HoldsNone P.PagesTells pages.old child pages.new) }
     ensures last { P.last_page pages.new ≡ P.last_page pages.old }
     ensures edits { Editing P.PagesTells pages.old pages.new }
@@ -230,6 +233,7 @@ fn lower_first<P: EditPages>(alloc: Global, pages: &mut P, bytes: &[u8]) -> Resu
         → (shown_over P.PagesTells pages.new world).node 1 ≡ Some node) }
     ensures lacks { IfOk result (λ fits. fits ≡ false → ReadsAtMost P.PagesTells pages.old pages.new
         × ((node : Node) → node_of (P.usable pages.old) false bytes.now ≡ Some node → LacksRoom (P.usable pages.old) node)) }
+    ensures unread { IfOk result (λ fits. fits ≡ false → P.reads pages.new ≡ P.reads pages.old) }
     ensures cause { IfErr result (λ why. IsFromOutside (P.faults pages.old) (P.faults pages.new) why) }
     ensures last { P.last_page pages.new ≡ P.last_page pages.old }
     ensures edits { Editing P.PagesTells pages.old pages.new }
@@ -258,6 +262,7 @@ fn store_first<P: EditPages>(
         → (shown_over P.PagesTells pages.new world).node 1 ≡ Some node) }
     ensures lacks { IfOk result (λ fits. fits ≡ false → ReadsAtMost P.PagesTells pages.old pages.new
         × ((node : Node) → node_of (P.usable pages.old) false bytes.now ≡ Some node → LacksRoom (P.usable pages.old) node)) }
+    ensures unread { IfOk result (λ fits. fits ≡ false → P.reads pages.new ≡ P.reads pages.old) }
     ensures cause { IfErr result (λ why. IsFromOutside (P.faults pages.old) (P.faults pages.new) why) }
     ensures last { P.last_page pages.new ≡ P.last_page pages.old }
     ensures edits { Editing P.PagesTells pages.old pages.new }

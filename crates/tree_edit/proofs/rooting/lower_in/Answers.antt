@@ -1,7 +1,7 @@
 use Rattle.std.proofs.Common.{◌≡◌, ◌==◌, ℕ, [], List, sym, subst, ◌∙◌, arith, Some, Bool, false}
 use Rattle.std.proofs.lemmas.Bool.{ne_eqb}
 use Rattle.node_spec.specs.Nodes.{Node, node_of}
-use Rattle.std.specs.Prelude.{Option}
+use Rattle.std.specs.Prelude.{Option, Contains}
 use Rattle.overflow.specs.Following.{shown_over}
 use Rattle.page_face.proofs.PageLaws.{reading_join}
 use Rattle.tree_edit.specs.Editing.{EditsPages, storing}
@@ -70,3 +70,10 @@ returns-in-Ok-lower_first-clause-lowered g c =
   where
     same_node : (P : Option Node) (a b : Node) (u : ℕ) (bytes : List ℕ) → P ≡ Some a → P ≡ Some b → node_of u false bytes ≡ Some a → node_of u false bytes ≡ Some b
     same_node P a b u bytes one two shown = shown ∙ (sym one ∙ two)
+
+pub returns-in-Ok-lower_first-clause-read : goal.returns-in-Ok-lower_first-clause-read
+returns-in-Ok-lower_first-clause-read g c = λ lacks n there.
+    let p = g.P.PagesTells in
+    let old = c.args.pages.now in
+    let mid = c.fetch_node.new.pages in
+    read_one p old mid c.args.child c.in-Ok.ensures.node.read n (subst (λ (l : List ℕ). Contains l n) (c.in-Ok-lower_first.ensures.unread lacks) there)
