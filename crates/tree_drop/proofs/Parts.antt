@@ -32,8 +32,8 @@ use Rattle.tree_edit.proofs.Edits.{edits_none, edits_gives, page_apart}
 use Rattle.tree_keys.specs.Standing.{Stands}
 use Rattle.tree_keys.proofs.Spotted.{drop_at, drop_past}
 use Rattle.tree_drop.specs.Dropping.{DropsTree, BarsDrop}
-use Rattle.tree_drop.specs.Parts.{AreHeld, DropsOn, BarsOn, least_at, IsPart, IsChildPart, IsBelow, IsUnder, IsUnderCell, IsOwnChain, HasChain, HaveChains, SaysCell}
-use Rattle.tree_drop.proofs.Steps.{Splits, SplitsInto, IsLocal, IsPage}
+use Rattle.tree_drop.specs.Parts.{AreHeldOnce, DropsOn, BarsOn, least_at, IsTreePart, IsChildPart, IsBelow, AreUnderCells, IsUnderCell, IsOwnChain, HasChain, HaveChains, SaysCell}
+use Rattle.tree_drop.proofs.Steps.{SplitsInTwo, SplitsInto, IsLocal, IsPageAlone}
 
 -- Chains.
 
@@ -119,7 +119,7 @@ pub chains_split : (table : Bool) (cell : NodeCell) (cells : List NodeCell) → 
 chains_split table cell cells = λ usable last shown own is. by_items usable last shown own is.items is.items_are is.own_is
   where
     by_items : (usable last : ℕ) (shown : Shown) (own : List ℕ) (items : List Item) → AreItems table usable last shown (cell ∷ cells) items → own ≡ chains items
-        → Splits (HasChain cell) (HaveChains table cells) usable last shown own
+        → SplitsInTwo (HasChain cell) (HaveChains table cells) usable last shown own
     by_items usable last shown own [] are own_is = absurd are
     by_items usable last shown own (item ∷ items) are own_is = record {
       first = item.chain;
@@ -148,7 +148,7 @@ chains_end table cells k past usable last shown own is =
 -- an interior page's cells
 
 pub under_split : (table : Bool) (most level : ℕ) (cell : NodeCell) (cells : List NodeCell) (right : ℕ)
-    → SplitsInto (IsUnder table most level (cell ∷ cells) right) (IsUnderCell table most level cell) (IsUnder table most level cells right)
+    → SplitsInto (AreUnderCells table most level (cell ∷ cells) right) (IsUnderCell table most level cell) (AreUnderCells table most level cells right)
 under_split table most level cell cells right = λ usable last shown own is.
     let part = is.under in
     record {
@@ -174,24 +174,24 @@ under_split table most level cell cells right = λ usable last shown own is.
       two = record { height = is.height; low = is.low; items = part.rest; under = part.others };
     }
 
-pub under_end : (table : Bool) (most level right usable last : ℕ) (shown : Shown) (own : List ℕ) → IsUnder table most level [] right usable last shown own
+pub under_end : (table : Bool) (most level right usable last : ℕ) (shown : Shown) (own : List ℕ) → AreUnderCells table most level [] right usable last shown own
     → IsChildPart table most level right usable last shown own
 under_end table most level right usable last shown own is = record { height = is.height; low = is.low; items = is.items; child = is.under }
 
 pub under_at : (table : Bool) (most level : ℕ) (cells : List NodeCell) (right k next : ℕ) → k < length cells → next ≡ k + 1
-    → SplitsInto (IsUnder table most level (drop k cells) right) (IsUnderCell table most level (slice_index_or cells k no_cell)) (IsUnder table most level (drop next cells) right)
+    → SplitsInto (AreUnderCells table most level (drop k cells) right) (IsUnderCell table most level (slice_index_or cells k no_cell)) (AreUnderCells table most level (drop next cells) right)
 under_at table most level cells right k next less is =
     let next_is : suc k ≡ next = omega (arith, is) in
-    subst (λ (n : ℕ). SplitsInto (IsUnder table most level (drop k cells) right) (IsUnderCell table most level (slice_index_or cells k no_cell)) (IsUnder table most level (drop n cells) right)) next_is
-    (subst (λ (l : List NodeCell). SplitsInto (IsUnder table most level l right) (IsUnderCell table most level (slice_index_or cells k no_cell)) (IsUnder table most level (drop (suc k) cells) right))
+    subst (λ (n : ℕ). SplitsInto (AreUnderCells table most level (drop k cells) right) (IsUnderCell table most level (slice_index_or cells k no_cell)) (AreUnderCells table most level (drop n cells) right)) next_is
+    (subst (λ (l : List NodeCell). SplitsInto (AreUnderCells table most level l right) (IsUnderCell table most level (slice_index_or cells k no_cell)) (AreUnderCells table most level (drop (suc k) cells) right))
     (sym (drop_at cells k less)) (under_split table most level (slice_index_or cells k no_cell) (drop (suc k) cells) right))
 
 pub under_last : (table : Bool) (most level : ℕ) (cells : List NodeCell) (right told k : ℕ) → length cells ≤ k → told ≡ right → (usable last : ℕ) (shown : Shown) (own : List ℕ)
-    → IsUnder table most level (drop k cells) right usable last shown own → IsChildPart table most level told usable last shown own
+    → AreUnderCells table most level (drop k cells) right usable last shown own → IsChildPart table most level told usable last shown own
 under_last table most level cells right told k past is usable last shown own under =
     subst (λ (n : ℕ). IsChildPart table most level n usable last shown own) (sym is)
     (under_end table most level right usable last shown own
-    (subst (λ (l : List NodeCell). IsUnder table most level l right usable last shown own) (drop_past cells k past) under))
+    (subst (λ (l : List NodeCell). AreUnderCells table most level l right usable last shown own) (drop_past cells k past) under))
 
 pub under_cell_local : (table : Bool) (most level : ℕ) (cell : NodeCell) → IsLocal (IsUnderCell table most level cell)
 under_cell_local table most level cell = λ usable last shown shown_then own same is.
@@ -240,21 +240,21 @@ child_local table most level page = λ usable last shown shown_then own same is.
 }
 
 pub child_part : (table : Bool) (most level next page usable last : ℕ) (shown : Shown) (own : List ℕ) → next ≡ level + 1 → IsChildPart table most level page usable last shown own
-    → IsPart table most next page usable last shown own
+    → IsTreePart table most next page usable last shown own
 child_part table most level next page usable last shown own is child =
-    subst (λ (n : ℕ). IsPart table most n page usable last shown own) (let e : suc level ≡ next = omega (arith, is) in e)
+    subst (λ (n : ℕ). IsTreePart table most n page usable last shown own) (let e : suc level ≡ next = omega (arith, is) in e)
     (record { height = child.height; low = child.low; items = child.items; holds = child.child.holds })
 
 -- a page
 
 -- a page with the node that it shows: what that leads to, and the page itself
-pub record IsWhole (table : Bool) (most level page : ℕ) (node : Node) (usable last : ℕ) (shown : Shown) (own : List ℕ) : Type 0 where
+pub record IsPageWithNode (table : Bool) (most level page : ℕ) (node : Node) (usable last : ℕ) (shown : Shown) (own : List ℕ) : Type 0 where
   pub below : List ℕ
   pub own_is : own ≡ page ∷ below
   pub is : IsBelow table most level node usable last shown below
 
 pub part_whole : (table : Bool) (most level page : ℕ) (node : Node) (usable last : ℕ) (shown : Shown) (own : List ℕ) → shown.node page ≡ Some node
-    → IsPart table most level page usable last shown own → (1 ≤ times own page) × IsWhole table most level page node usable last shown own
+    → IsTreePart table most level page usable last shown own → (1 ≤ times own page) × IsPageWithNode table most level page node usable last shown own
 part_whole table most level page node usable last shown own shows part =
     let holds = part.holds in (
       head_there page holds.below own holds.own_is,
@@ -270,7 +270,7 @@ part_whole table most level page node usable last shown own shows part =
       },
     )
 
-pub whole_split_page : (table : Bool) (most level page : ℕ) (node : Node) → SplitsInto (IsWhole table most level page node) (IsBelow table most level node) (IsPage page)
+pub whole_split_page : (table : Bool) (most level page : ℕ) (node : Node) → SplitsInto (IsPageWithNode table most level page node) (IsBelow table most level node) (IsPageAlone page)
 whole_split_page table most level page node = λ usable last shown own whole. record {
   first = whole.below;
   second = page ∷ [];
@@ -296,15 +296,15 @@ below_leaf table most level node leaf usable last shown own is = by_height is.he
     by_height (suc height) content = absurd (not_both (is_leaf node.kind) leaf content.inner)
 
 pub below_inner : (table : Bool) (most level : ℕ) (node : Node) → is_leaf node.kind ≡ false → (usable last : ℕ) (shown : Shown) (own : List ℕ)
-    → IsBelow table most level node usable last shown own → IsUnder table most level node.cells node.right usable last shown own
+    → IsBelow table most level node usable last shown own → AreUnderCells table most level node.cells node.right usable last shown own
 below_inner table most level node inner usable last shown own is = by_height is.height is.low is.content
   where
-    by_height : (height : ℕ) → level + height ≤ most → Content table usable last shown height node own is.items → IsUnder table most level node.cells node.right usable last shown own
+    by_height : (height : ℕ) → level + height ≤ most → Content table usable last shown height node own is.items → AreUnderCells table most level node.cells node.right usable last shown own
     by_height zero low content = absurd (not_both (is_leaf node.kind) content.leaf inner)
     by_height (suc height) low content = record { height = height; low = omega (arith, low); items = is.items; under = content.under }
 
 -- the node of a part may stand where it stands
-may_stand : (table : Bool) (level page usable last : ℕ) (shown : Shown) (own : List ℕ) → (part : IsPart table 40 level page usable last shown own)
+may_stand : (table : Bool) (level page usable last : ℕ) (shown : Shown) (own : List ℕ) → (part : IsTreePart table 40 level page usable last shown own)
     → MayStand table page level part.holds.node
 may_stand table level page usable last shown own part = by_height level part.height part.low part.holds
   where
@@ -329,7 +329,7 @@ may_stand table level page usable last shown own part = by_height level part.hei
 
 -- a page that gave no node
 pub bars_node : {P : Type 0} (pages : Ghosts P) (old new : P) (table : Bool) (level page : ℕ) (why : FetchFault) → BarsNode pages old table page level new why
-    → BarsOn pages old (IsPart table 40 level page) new why
+    → BarsOn pages old (IsTreePart table 40 level page) new why
 bars_node pages old new table level page fault.Disk bars = bars
 bars_node pages old new table level page (fault.Corrupt named) bars = λ world told own neat part held.
     bars.2 world told part.holds.node
@@ -355,7 +355,7 @@ head_or_rest page n pages there = elim (cases_eq page n) [
 
 -- the pages of a tree that stands are held, if its root isn't page 1
 held_pages : {P : Type 0} (pages : Ghosts P) (at : P) (world : View) (table : Bool) (height root : ℕ) (own : List ℕ) (items : List Item) → 2 ≤ root
-    → Stands pages at world table height root own items → AreHeld pages at world own
+    → Stands pages at world table height root own items → AreHeldOnce pages at world own
 held_pages pages at world table height root own items low stands = λ n there.
     let range = tree_range table (pages.usable at) (pages.last_page at) (shown_over pages at world) height root own items stands.tree in
     let used = stands.used n there in
@@ -367,13 +367,13 @@ held_pages pages at world table height root own items low stands = λ n there.
       | inr below ↦ omega (arith, (of_each (λ (page : ℕ). (2 ≤ page) × (page ≤ pages.last_page at)) range.0 n range.2 below).0)
     ]
 
-pub drops_tree : {P : Type 0} (pages : Ghosts P) (old new : P) (table : Bool) (root : ℕ) → 2 ≤ root → ((most : ℕ) → DropsOn pages old (IsPart table most 0 root) new)
+pub drops_tree : {P : Type 0} (pages : Ghosts P) (old new : P) (table : Bool) (root : ℕ) → 2 ≤ root → ((most : ℕ) → DropsOn pages old (IsTreePart table most 0 root) new)
     → DropsTree pages old table root new
 drops_tree pages old new table root low drops = λ world told height own items stands.
     drops height world told own stands.neat (record { height = height; low = omega arith; items = items; holds = stands.tree })
     (held_pages pages old world table height root own items low stands)
 
-pub bars_tree : {P : Type 0} (pages : Ghosts P) (old new : P) (table : Bool) (root : ℕ) (why : FetchFault) → 2 ≤ root → BarsOn pages old (IsPart table 40 0 root) new why
+pub bars_tree : {P : Type 0} (pages : Ghosts P) (old new : P) (table : Bool) (root : ℕ) (why : FetchFault) → 2 ≤ root → BarsOn pages old (IsTreePart table 40 0 root) new why
     → BarsDrop pages old table root new why
 bars_tree pages old new table root fault.Disk low bars = bars
 bars_tree pages old new table root (fault.Corrupt named) low bars = λ there.

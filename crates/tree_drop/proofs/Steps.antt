@@ -16,7 +16,7 @@ use Rattle.edit_spec.proofs.Local.{AllAlike}
 use Rattle.tree_read.proofs.Descents.{rose_before}
 use Rattle.tree_edit.specs.Editing.{PageLists, EditsPages, IsFreeBy, giving}
 use Rattle.tree_edit.proofs.Edits.{edits_join, edits_read, edits_give, edits_none, still_used, alike, read_one, the_page}
-use Rattle.tree_drop.specs.Parts.{OnPages, AreHeld, DropsOn, BarsOn}
+use Rattle.tree_drop.specs.Parts.{OnPages, AreHeldOnce, DropsOn, BarsOn}
 
 -- the pages of calls that read some pages and gave up some
 abbrev pub dropping : (read gone : List ℕ) → PageLists
@@ -32,9 +32,9 @@ pub record LeftOf {P : Type 0} (pages : Ghosts P) (old now : P) (Rest : OnPages)
   pub edits : EditsPages pages (dropping read gone) old now world
   pub rest : Rest (pages.usable old) (pages.last_page old) (shown_over pages old world) left
 
-pub record SoFar {P : Type 0} (pages : Ghosts P) (old now : P) (Is Rest : OnPages) : Type 0 where
+pub record GoneSoFar {P : Type 0} (pages : Ghosts P) (old now : P) (Is Rest : OnPages) : Type 0 where
   pub left : (world : View) → pages.tells now world → (own : List ℕ) → pages.neat old world
-      → Is (pages.usable old) (pages.last_page old) (shown_over pages old world) own → AreHeld pages old world own → LeftOf pages old now Rest world own
+      → Is (pages.usable old) (pages.last_page old) (shown_over pages old world) own → AreHeldOnce pages old world own → LeftOf pages old now Rest world own
   pub last : pages.last_page now ≡ pages.last_page old
   pub edits : Editing pages old now
 
@@ -43,7 +43,7 @@ abbrev pub Nothing : OnPages
 Nothing usable last shown own = own ≡ []
 
 -- It is made of two parts.
-pub record Splits (First Second : OnPages) (usable last : ℕ) (shown : Shown) (own : List ℕ) : Type 0 where
+pub record SplitsInTwo (First Second : OnPages) (usable last : ℕ) (shown : Shown) (own : List ℕ) : Type 0 where
   pub first : List ℕ
   pub second : List ℕ
   pub counts : (n : ℕ) → times own n ≡ times first n + times second n
@@ -51,7 +51,7 @@ pub record Splits (First Second : OnPages) (usable last : ℕ) (shown : Shown) (
   pub two : Second usable last shown second
 
 abbrev pub SplitsInto : OnPages → OnPages → OnPages → Type 0
-SplitsInto Rest First Second = (usable last : ℕ) (shown : Shown) (own : List ℕ) → Rest usable last shown own → Splits First Second usable last shown own
+SplitsInto Rest First Second = (usable last : ℕ) (shown : Shown) (own : List ℕ) → Rest usable last shown own → SplitsInTwo First Second usable last shown own
 
 -- it stays where its pages show the same
 abbrev pub IsLocal : OnPages → Type 0
@@ -63,7 +63,7 @@ whole_split Rest Only turns = λ usable last shown own rest.
     record { first = own; second = []; counts = λ n. omega arith; one = turns usable last shown own rest; two = refl }
 
 -- at first all is left
-pub begun : {P : Type 0} (pages : Ghosts P) (old : P) (Is : OnPages) → pages.ready old → pages.follows old old → SoFar pages old old Is Is
+pub begun : {P : Type 0} (pages : Ghosts P) (old : P) (Is : OnPages) → pages.ready old → pages.follows old old → GoneSoFar pages old old Is Is
 begun pages old Is ready follows = record {
   left = λ world told own neat is held. record {
     read = [];
@@ -81,7 +81,7 @@ begun pages old Is ready follows = record {
 -- a page of it was read, which tells more of it
 pub begun_read : {P : Type 0} (pages : Ghosts P) (old now : P) (page : ℕ) (Is Rest : OnPages) → ReadsAtMost pages old now → pages.reads now ≡ pages_read pages old page
     → ((world : View) → pages.tells now world → (own : List ℕ) → Is (pages.usable old) (pages.last_page old) (shown_over pages old world) own
-    → (1 ≤ times own page) × Rest (pages.usable old) (pages.last_page old) (shown_over pages old world) own) → SoFar pages old now Is Rest
+    → (1 ≤ times own page) × Rest (pages.usable old) (pages.last_page old) (shown_over pages old world) own) → GoneSoFar pages old now Is Rest
 begun_read pages old now page Is Rest only reads turns = record {
   left = λ world told own neat is held.
       let found = turns world told own is in
@@ -99,15 +99,15 @@ begun_read pages old now page Is Rest only reads turns = record {
 }
 
 -- The part that is next, as it is now.
-record IsNext {P : Type 0} (pages : Ghosts P) (old now : P) (Rest First Second : OnPages) (world : View) (own : List ℕ) : Type 0 where
+record NextPart {P : Type 0} (pages : Ghosts P) (old now : P) (Rest First Second : OnPages) (world : View) (own : List ℕ) : Type 0 where
   before : LeftOf pages old now Rest world own
-  split : Splits First Second (pages.usable old) (pages.last_page old) (shown_over pages old world) before.left
+  split : SplitsInTwo First Second (pages.usable old) (pages.last_page old) (shown_over pages old world) before.left
   is : First (pages.usable now) (pages.last_page now) (shown_over pages now world) split.first
-  held : AreHeld pages now world split.first
+  held : AreHeldOnce pages now world split.first
 
-next_part : {P : Type 0} (pages : Ghosts P) (old now : P) (Is Rest First Second : OnPages) → SoFar pages old now Is Rest → SplitsInto Rest First Second → IsLocal First
+next_part : {P : Type 0} (pages : Ghosts P) (old now : P) (Is Rest First Second : OnPages) → GoneSoFar pages old now Is Rest → SplitsInto Rest First Second → IsLocal First
     → (world : View) → pages.tells now world → (own : List ℕ) → pages.neat old world → Is (pages.usable old) (pages.last_page old) (shown_over pages old world) own
-    → AreHeld pages old world own → IsNext pages old now Rest First Second world own
+    → AreHeldOnce pages old world own → NextPart pages old now Rest First Second world own
 next_part pages old now Is Rest First Second so_far splits stays world told own neat is held =
     let before = so_far.left world told own neat is held in
     let split = splits (pages.usable old) (pages.last_page old) (shown_over pages old world) before.left before.rest in
@@ -131,8 +131,8 @@ next_part pages old now Is Rest First Second so_far splits stays world told own 
     }
 
 -- one part more was given up
-pub goes_on : {P : Type 0} (pages : Ghosts P) (old now later : P) (Is Rest First Second : OnPages) → SoFar pages old now Is Rest → SplitsInto Rest First Second → IsLocal First
-    → GoesOn pages → Editing pages now later → pages.last_page later ≡ pages.last_page now → DropsOn pages now First later → SoFar pages old later Is Second
+pub goes_on : {P : Type 0} (pages : Ghosts P) (old now later : P) (Is Rest First Second : OnPages) → GoneSoFar pages old now Is Rest → SplitsInto Rest First Second → IsLocal First
+    → GoesOn pages → Editing pages now later → pages.last_page later ≡ pages.last_page now → DropsOn pages now First later → GoneSoFar pages old later Is Second
 goes_on pages old now later Is Rest First Second so_far splits stays on edits last drops = record {
   left = λ world told own neat is held.
       let next = next_part pages old now Is Rest First Second so_far splits stays world (edits.narrows world told) own neat is held in
@@ -153,7 +153,7 @@ goes_on pages old now later Is Rest First Second so_far splits stays on edits la
 
 -- what is left, by other words
 pub left_as : {P : Type 0} (pages : Ghosts P) (old now : P) (Is Rest Other : OnPages) → ((usable last : ℕ) (shown : Shown) (own : List ℕ) → Rest usable last shown own → Other usable last shown own)
-    → SoFar pages old now Is Rest → SoFar pages old now Is Other
+    → GoneSoFar pages old now Is Rest → GoneSoFar pages old now Is Other
 left_as pages old now Is Rest Other turns so_far = record {
   left = λ world told own neat is held.
       let at = so_far.left world told own neat is held in
@@ -180,7 +180,7 @@ as_long [] own same some = absurd (omega (arith, some))
 as_long (page ∷ pages) own same some = length_some own page (omega (arith, same page, head_there page pages (page ∷ pages) refl))
 
 -- all of it was given up
-pub all_gone : {P : Type 0} (pages : Ghosts P) (old now : P) (Is : OnPages) → SoFar pages old now Is Nothing → DropsOn pages old Is now
+pub all_gone : {P : Type 0} (pages : Ghosts P) (old now : P) (Is : OnPages) → GoneSoFar pages old now Is Nothing → DropsOn pages old Is now
 all_gone pages old now Is so_far = λ world told own neat is held.
     let at = so_far.left world told own neat is held in
     let edits = at.edits in
@@ -207,7 +207,7 @@ all_gone pages old now Is so_far = λ world told own neat is held.
     }
 
 -- why the next part wasn't given up is why the whole wasn't
-pub bars_next : {P : Type 0} (pages : Ghosts P) (old now new : P) (Is Rest First Second : OnPages) (why : FetchFault) → SoFar pages old now Is Rest → SplitsInto Rest First Second
+pub bars_next : {P : Type 0} (pages : Ghosts P) (old now new : P) (Is Rest First Second : OnPages) (why : FetchFault) → GoneSoFar pages old now Is Rest → SplitsInto Rest First Second
     → IsLocal First → Editing pages now new → BarsOn pages now First new why → BarsOn pages old Is new why
 bars_next pages old now new Is Rest First Second fault.Disk so_far splits stays edits bars = rose_before _ _ _ so_far.edits.faults bars
 bars_next pages old now new Is Rest First Second (fault.Corrupt named) so_far splits stays edits bars = λ world told own neat is held.
@@ -240,14 +240,14 @@ pub bars_memory : {P : Type 0} (pages : Ghosts P) (old new : P) (Is : OnPages) (
 bars_memory pages old new Is why is = subst (λ (w : FetchFault). BarsOn pages old Is new w) (sym is) tt
 
 -- a page alone
-abbrev pub IsPage : ℕ → OnPages
-IsPage page usable last shown own = own ≡ page ∷ []
+abbrev pub IsPageAlone : ℕ → OnPages
+IsPageAlone page usable last shown own = own ≡ page ∷ []
 
-pub drops_page : {P : Type 0} (pages : Ghosts P) (old new : P) (page : ℕ) → HasGivenUp pages old page (Ok tt) new → DropsOn pages old (IsPage page) new
+pub drops_page : {P : Type 0} (pages : Ghosts P) (old new : P) (page : ℕ) → HasGivenUp pages old page (Ok tt) new → DropsOn pages old (IsPageAlone page) new
 drops_page pages old new page up = λ world told own neat is held.
     let here = held page (head_there page [] own is) in
     subst (λ (l : List ℕ). EditsPages pages (giving l) old new world) (sym is)
     (edits_give pages page old new world (up.given world told) here.2 neat (up.changed world told neat) (up.read world told neat))
 
-pub page_local : (page : ℕ) → IsLocal (IsPage page)
+pub page_local : (page : ℕ) → IsLocal (IsPageAlone page)
 page_local page = λ usable last shown shown_then own same is. is

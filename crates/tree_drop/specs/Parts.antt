@@ -21,18 +21,18 @@ abbrev pub OnPages : Type 1
 OnPages = (usable last : ℕ) → Shown → List ℕ → Type 0
 
 -- each of these is a page, in use, and stands in the list once
-abbrev pub AreHeld : {P : Type 0} → Ghosts P → P → View → List ℕ → Type 0
-AreHeld pages at world own = (number : ℕ) → 1 ≤ times own number → (1 ≤ number) × (times own number ≤ 1) × (pages.free at world number → ⊥)
+abbrev pub AreHeldOnce : {P : Type 0} → Ghosts P → P → View → List ℕ → Type 0
+AreHeldOnce pages at world own = (number : ℕ) → 1 ≤ times own number → (1 ≤ number) × (times own number ≤ 1) × (pages.free at world number → ⊥)
 
 -- Over each world that is still told in which there was such a thing, on pages in use, and the freelist in order: just its pages were given up.
 abbrev pub DropsOn : {P : Type 0} → Ghosts P → P → OnPages → P → Type 0
 DropsOn pages old Is new = (world : View) → pages.tells new world → (own : List ℕ) → pages.neat old world
-    → Is (pages.usable old) (pages.last_page old) (shown_over pages old world) own → AreHeld pages old world own → EditsPages pages (giving own) old new world
+    → Is (pages.usable old) (pages.last_page old) (shown_over pages old world) own → AreHeldOnce pages old world own → EditsPages pages (giving own) old new world
 
 -- no world that is still told has such a thing
 abbrev pub NoneOn : {P : Type 0} → Ghosts P → P → OnPages → P → Type 0
 NoneOn pages old Is new = (world : View) → pages.tells new world → (own : List ℕ) → pages.neat old world
-    → Is (pages.usable old) (pages.last_page old) (shown_over pages old world) own → AreHeld pages old world own → ⊥
+    → Is (pages.usable old) (pages.last_page old) (shown_over pages old world) own → AreHeldOnce pages old world own → ⊥
 
 -- Why it wasn't given up: the disk failed, memory ran out, or there is none.
 abbrev pub BarsOn : {P : Type 0} → Ghosts P → P → OnPages → P → FetchFault → Type 0
@@ -49,7 +49,7 @@ least_at zero height = root_least height
 least_at (suc level) height = 1
 
 -- a page, so many levels below the root, with all that it leads to
-pub record IsPart (table : Bool) (most level page usable last : ℕ) (shown : Shown) (own : List ℕ) : Type 0 where
+pub record IsTreePart (table : Bool) (most level page usable last : ℕ) (shown : Shown) (own : List ℕ) : Type 0 where
   pub height : ℕ
   pub low : level + height ≤ most
   pub items : List Item
@@ -70,7 +70,7 @@ pub record IsBelow (table : Bool) (most level : ℕ) (node : Node) (usable last 
   pub content : Content table usable last shown height node own items
 
 -- what cells and a right child of an interior page lead to
-pub record IsUnder (table : Bool) (most level : ℕ) (cells : List NodeCell) (right usable last : ℕ) (shown : Shown) (own : List ℕ) : Type 0 where
+pub record AreUnderCells (table : Bool) (most level : ℕ) (cells : List NodeCell) (right usable last : ℕ) (shown : Shown) (own : List ℕ) : Type 0 where
   pub height : ℕ
   pub low : suc level + height ≤ most
   pub items : List Item

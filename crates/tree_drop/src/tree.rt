@@ -5,7 +5,7 @@ ghost use Rattle.node_spec.specs.Cells.{NodeCell};
 ghost use Rattle.node_spec.specs.Nodes.{Node};
 ghost use Rattle.page_form.specs.Reading.{IsReadPage};
 ghost use Rattle.tree_drop.specs.Dropping.{DropsTree, BarsDrop};
-ghost use Rattle.tree_drop.specs.Parts.{DropsOn, BarsOn, SaysCell, IsPart, IsChildPart, IsBelow, IsUnder, IsUnderCell};
+ghost use Rattle.tree_drop.specs.Parts.{DropsOn, BarsOn, SaysCell, IsTreePart, IsChildPart, IsBelow, AreUnderCells, IsUnderCell};
 
 use crate::cells::{free_payload, free_payloads};
 use page_face::{EditPages, FetchFault};
@@ -63,8 +63,8 @@ fn drop_with<P: EditPages>(
     requires ready { P.ready pages.old }
     requires page { (2 ≤ root) × (root ≤ P.last_page pages.old) }
     requires room { length buf.old ≡ P.page_size pages.old }
-    ensures dropped { OnOk result ((most : ℕ) → DropsOn P.PagesTells pages.old (IsPart table most 0 root) pages.new) }
-    ensures refused { IfErr result (BarsOn P.PagesTells pages.old (IsPart table 40 0 root) pages.new) }
+    ensures dropped { OnOk result ((most : ℕ) → DropsOn P.PagesTells pages.old (IsTreePart table most 0 root) pages.new) }
+    ensures refused { IfErr result (BarsOn P.PagesTells pages.old (IsTreePart table 40 0 root) pages.new) }
     ensures last { P.last_page pages.new ≡ P.last_page pages.old }
     ensures edits { Editing P.PagesTells pages.old pages.new }
 {
@@ -94,8 +94,8 @@ fn drop_at<P: EditPages>(
     requires level { place.level ≤ 41 }
     requires buf { length buf.old ≡ P.page_size pages.old }
     requires room { length room.old ≡ P.page_size pages.old }
-    ensures dropped { OnOk result ((most : ℕ) → DropsOn P.PagesTells pages.old (IsPart place.table most place.level place.page) pages.new) }
-    ensures refused { IfErr result (BarsOn P.PagesTells pages.old (IsPart place.table 40 place.level place.page) pages.new) }
+    ensures dropped { OnOk result ((most : ℕ) → DropsOn P.PagesTells pages.old (IsTreePart place.table most place.level place.page) pages.new) }
+    ensures refused { IfErr result (BarsOn P.PagesTells pages.old (IsTreePart place.table 40 place.level place.page) pages.new) }
     ensures last { P.last_page pages.new ≡ P.last_page pages.old }
     ensures edits { Editing P.PagesTells pages.old pages.new }
     ensures buf { length buf.new ≡ length buf.old }
@@ -159,9 +159,9 @@ fn drop_inner<P: EditPages>(
     requires read { (shown : Node) × IsReadPage (P.usable pages.old) bytes.now node.now shown }
     requires room { length room.old ≡ P.page_size pages.old }
     ensures dropped { OnOk result ((shown : Node) → IsReadPage (P.usable pages.old) bytes.now node.now shown
-        → (most : ℕ) → DropsOn P.PagesTells pages.old (IsUnder place.table most place.level shown.cells shown.right) pages.new) }
+        → (most : ℕ) → DropsOn P.PagesTells pages.old (AreUnderCells place.table most place.level shown.cells shown.right) pages.new) }
     ensures refused { IfErr result (λ why. (shown : Node) → IsReadPage (P.usable pages.old) bytes.now node.now shown
-        → BarsOn P.PagesTells pages.old (IsUnder place.table 40 place.level shown.cells shown.right) pages.new why) }
+        → BarsOn P.PagesTells pages.old (AreUnderCells place.table 40 place.level shown.cells shown.right) pages.new why) }
     ensures last { P.last_page pages.new ≡ P.last_page pages.old }
     ensures edits { Editing P.PagesTells pages.old pages.new }
     ensures room { length room.new ≡ length room.old }
@@ -190,9 +190,9 @@ fn drop_children<P: EditPages>(
     requires buf { length buf.old ≡ P.page_size pages.old }
     requires room { length room.old ≡ P.page_size pages.old }
     ensures dropped { OnOk result ((shown : Node) → IsReadPage (P.usable pages.old) bytes.now node.now shown
-        → (most : ℕ) → DropsOn P.PagesTells pages.old (IsUnder place.table most place.level shown.cells shown.right) pages.new) }
+        → (most : ℕ) → DropsOn P.PagesTells pages.old (AreUnderCells place.table most place.level shown.cells shown.right) pages.new) }
     ensures refused { IfErr result (λ why. (shown : Node) → IsReadPage (P.usable pages.old) bytes.now node.now shown
-        → BarsOn P.PagesTells pages.old (IsUnder place.table 40 place.level shown.cells shown.right) pages.new why) }
+        → BarsOn P.PagesTells pages.old (AreUnderCells place.table 40 place.level shown.cells shown.right) pages.new why) }
     ensures last { P.last_page pages.new ≡ P.last_page pages.old }
     ensures edits { Editing P.PagesTells pages.old pages.new }
     ensures buf { length buf.new ≡ length buf.old }

@@ -3,8 +3,8 @@ use Rattle.std.proofs.Common.{◌≡◌, ℕ, ◌+◌, ◌-◌, ◌*◌, length,
 use Rattle.page_face.specs.Pages.{Editing}
 use Rattle.node_spec.specs.Nodes.{Node}
 use Rattle.page_form.specs.Reading.{IsReadPage}
-use Rattle.tree_drop.specs.Parts.{IsUnder}
-use Rattle.tree_drop.proofs.Steps.{SoFar}
+use Rattle.tree_drop.specs.Parts.{AreUnderCells}
+use Rattle.tree_drop.proofs.Steps.{GoneSoFar}
 use Rattle.tree_drop.proofs.tree.+levels.Given as goal
 
 abbrev pub decreases-drop_at : goal.decreases-drop_at
@@ -29,7 +29,7 @@ decreases-drop_child g l = 6 * (41 - l.above.level) + 5
 abbrev pub invariant-drop_children-loop-k : goal.invariant-drop_children-loop-k
 invariant-drop_children-loop-k g l = record {
   so_far : (shown : Node) → IsReadPage (g.P.PagesTells.usable l.fn.pages) l.bytes l.node shown → (most : ℕ)
-      → SoFar g.P.PagesTells l.fn.pages l.pages (IsUnder l.place.table most l.place.level shown.cells shown.right) (IsUnder l.place.table most l.place.level (drop l.k shown.cells) shown.right);
+      → GoneSoFar g.P.PagesTells l.fn.pages l.pages (AreUnderCells l.place.table most l.place.level shown.cells shown.right) (AreUnderCells l.place.table most l.place.level (drop l.k shown.cells) shown.right);
   last : g.P.PagesTells.last_page l.pages ≡ g.P.PagesTells.last_page l.fn.pages;
   edits : Editing g.P.PagesTells l.fn.pages l.pages;
   buf : length l.buf ≡ length l.fn.buf;
