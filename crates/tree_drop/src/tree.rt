@@ -1,5 +1,6 @@
 // The way through a tree, page by page, and what is given up on the way back up.
-ghost use Rattle.std.specs.Prelude.{◌≡◌, ◌≢◌, ℕ, ◌≤◌, length, OnOk, IfErr};
+ghost use Rattle.std.specs.Prelude.{◌≡◌, ◌≢◌, ℕ, ◌≤◌, Bool, true, false, length, vec_len, OnOk, IfErr};
+ghost use Rattle.node_spec.specs.Kinds.{is_leaf};
 ghost use Rattle.page_face.specs.Pages.{Editing};
 ghost use Rattle.node_spec.specs.Cells.{NodeCell};
 ghost use Rattle.node_spec.specs.Nodes.{Node};
@@ -9,8 +10,9 @@ ghost use Rattle.tree_drop.specs.Parts.{DropsOn, BarsOn, SaysCell, IsTreePart, I
 
 use crate::cells::{free_payload, free_payloads};
 use page_face::{EditPages, FetchFault};
-use page_form::{Cell, Page, is_leaf, read_cell};
+use page_form::{Cell, Page, is_leaf, is_table, read_cell};
 use std::alloc::Global;
+use tree_edit::fetch_node;
 use tree_read::{is_outside, page_buffer, read_node, usable_of};
 
 /// Where a page stands in a tree.
@@ -24,21 +26,16 @@ struct Place {
     table: bool,
 }
 
-/// Gives up each page of the tree of a root, which is that of a table or of an index, and of its payloads' chains. The root goes last.
+/// Gives up each page of the tree of a root, of a table or of an index as the root's page says, and of its payloads' chains. The root goes last.
 ///
-/// `Corrupt` comes only where no such tree stands at the root. It names the root where that is out of range, a page that is no page's text, of the
-/// other kind, too deep or without a cell, or one that names a page out of range. After an error the tree may be given up in part. A buffer of a page is taken for each level,
+/// `Corrupt` comes only where no tree stands at the root: the root is out of range, or a page is no page's text, of the other kind, too deep
+/// or without a cell, or names a page out of range. After an error the tree may be given up in part. A buffer of a page is taken for each level,
 /// and one more.
-pub fn drop_tree<P: EditPages>(
-    alloc: Global,
-    pages: &mut P,
-    table: bool,
-    root: u32,
-) -> Result<(), FetchFault>
+pub fn drop_tree<P: EditPages>(alloc: Global, pages: &mut P, root: u32) -> Result<(), FetchFault>
     requires ready { P.ready pages.old }
     requires root { root ≢ 1 }
-    ensures dropped { OnOk result (DropsTree P.PagesTells pages.old table root pages.new) }
-    ensures refused { IfErr result (BarsDrop P.PagesTells pages.old table root pages.new) }
+    ensures dropped { OnOk result ((table : Bool) → DropsTree P.PagesTells pages.old table root pages.new) }
+    ensures refused { IfErr result (λ why. (table : Bool) → BarsDrop P.PagesTells pages.old table root pages.new why) }
     ensures last { P.last_page pages.new ≡ P.last_page pages.old }
     ensures edits { Editing P.PagesTells pages.old pages.new }
 {
@@ -49,25 +46,31 @@ pub fn drop_tree<P: EditPages>(
         Ok(buf) => buf,
         Err(why) => return Err(why),
     };
-    drop_with(alloc, pages, table, root, buf.as_mut_slice())
+    drop_with(alloc, pages, root, buf.as_mut_slice())
 }
 
-// The same, with a buffer for the root.
+// The same, with a buffer for the root, which is in range.
 fn drop_with<P: EditPages>(
     alloc: Global,
     pages: &mut P,
-    table: bool,
     root: u32,
     buf: &mut [u8],
 ) -> Result<(), FetchFault>
     requires ready { P.ready pages.old }
     requires page { (2 ≤ root) × (root ≤ P.last_page pages.old) }
     requires room { length buf.old ≡ P.page_size pages.old }
-    ensures dropped { OnOk result ((most : ℕ) → DropsOn P.PagesTells pages.old (IsTreePart table most 0 root) pages.new) }
-    ensures refused { IfErr result (BarsOn P.PagesTells pages.old (IsTreePart table 40 0 root) pages.new) }
+    ensures dropped { OnOk result ((table : Bool) (most : ℕ) → DropsOn P.PagesTells pages.old (IsTreePart table most 0 root) pages.new) }
+    ensures refused { IfErr result (λ why. (table : Bool) → BarsOn P.PagesTells pages.old (IsTreePart table 40 0 root) pages.new why) }
     ensures last { P.last_page pages.new ≡ P.last_page pages.old }
     ensures edits { Editing P.PagesTells pages.old pages.new }
 {
+    let node = match fetch_node(alloc, pages, root, buf) {
+        Ok(node) => node,
+        Err(why) => return Err(why),
+    };
+    if is_bare(&node) {
+        return Err(FetchFault::Corrupt { page: root });
+    }
     let mut room = match page_buffer(alloc, pages.page_size()) {
         Ok(room) => room,
         Err(why) => return Err(why),
@@ -75,9 +78,23 @@ fn drop_with<P: EditPages>(
     let place = Place {
         page: root,
         level: 0,
-        table,
+        table: is_table(node.kind),
     };
-    drop_at(alloc, pages, place, buf, room.as_mut_slice())
+    match drop_below(alloc, pages, place, &node, buf, room.as_mut_slice()) {
+        Ok(()) => (),
+        Err(why) => return Err(why),
+    }
+    match pages.give_up(root) {
+        Ok(()) => Ok(()),
+        Err(why) => Err(why),
+    }
+}
+
+// Whether an interior page has no cell.
+fn is_bare(node: &Page) -> bool
+    ensures { result ≡ true → (is_leaf node.now.kind ≡ false) × (vec_len node.now.cells ≡ 0) }
+{
+    !is_leaf(node.kind) && node.cells.is_empty()
 }
 
 // Gives up a page with all that it leads to. The buffers are one for the page, and one for chains.

@@ -10,11 +10,11 @@ use tree_read::{find_entry, find_row};
 use value_form::{Row, Value};
 
 // Gives up the tree of a root that isn't page 1.
-fn drops(alloc: Global, pages: &mut Laid, table: bool, root: u32) -> Result<(), FetchFault> {
+fn drops(alloc: Global, pages: &mut Laid, root: u32) -> Result<(), FetchFault> {
     if root == 1 {
         return Err(FetchFault::Memory);
     }
-    drop_tree(alloc, pages, table, root)
+    drop_tree(alloc, pages, root)
 }
 
 // How many bytes the text of a row has, which is its only value; 0 where there is no row.
@@ -44,18 +44,18 @@ fn has(alloc: Global, pages: &mut Laid, letter: u8, count: usize, rowid: i64) ->
     }
 }
 
-// Each row is a root, whether it is a table's, how many pages are given up, and which.
-const TREES: [(u32, bool, usize, [u32; 10]); 3] = [
-    (2, true, 10, [10, 9, 8, 5, 4, 7, 11, 6, 3, 2]),
-    (12, true, 1, [12, 0, 0, 0, 0, 0, 0, 0, 0, 0]),
-    (13, false, 9, [19, 20, 16, 15, 18, 21, 17, 14, 13, 0]),
+// Each row is a root, how many pages are given up, and which. The last one is an index's.
+const TREES: [(u32, usize, [u32; 10]); 3] = [
+    (2, 10, [10, 9, 8, 5, 4, 7, 11, 6, 3, 2]),
+    (12, 1, [12, 0, 0, 0, 0, 0, 0, 0, 0, 0]),
+    (13, 9, [19, 20, 16, 15, 18, 21, 17, 14, 13, 0]),
 ];
 
 #[test]
 fn each_page_is_given_up(rt: HostRuntime) -> Result<(), Fail> {
-    for (root, table, count, order) in TREES {
+    for (root, count, order) in TREES {
         let mut pages = Laid::new();
-        assert_eq!(rt; drops(rt.alloc(), &mut pages, table, root), Ok(()));
+        assert_eq!(rt; drops(rt.alloc(), &mut pages, root), Ok(()));
         assert_eq!(rt; pages.given, count);
         assert_eq!(rt; pages.fetched, count);
         assert!(rt; pages.gone[..10] == order[..]);
@@ -66,13 +66,13 @@ fn each_page_is_given_up(rt: HostRuntime) -> Result<(), Fail> {
 #[test]
 fn other_trees_stay(rt: HostRuntime) -> Result<(), Fail> {
     let mut pages = Laid::new();
-    assert_eq!(rt; drops(rt.alloc(), &mut pages, true, 2), Ok(()));
+    assert_eq!(rt; drops(rt.alloc(), &mut pages, 2), Ok(()));
     assert_eq!(rt; text_of(rt.alloc(), &mut pages, 12, 2), 200);
     assert_eq!(rt; text_of(rt.alloc(), &mut pages, 12, 5), 1);
     assert!(rt; has(rt.alloc(), &mut pages, b'c', 200, 2));
     assert!(rt; has(rt.alloc(), &mut pages, b'm', 200, 7));
     let mut pages = Laid::new();
-    assert_eq!(rt; drops(rt.alloc(), &mut pages, false, 13), Ok(()));
+    assert_eq!(rt; drops(rt.alloc(), &mut pages, 13), Ok(()));
     assert_eq!(rt; text_of(rt.alloc(), &mut pages, 2, 1), 1200);
     assert_eq!(rt; text_of(rt.alloc(), &mut pages, 2, 4), 700);
     Ok(())
@@ -100,22 +100,22 @@ fn broken_trees(rt: HostRuntime) -> Result<(), Fail> {
         let mut pages = Laid::new();
         pages.set(page, at, byte);
         assert_eq!(rt;
-            drops(rt.alloc(), &mut pages, true, 2),
+            drops(rt.alloc(), &mut pages, 2),
             Err(FetchFault::Corrupt { page: corrupt })
         );
     }
     Ok(())
 }
 
-// Each row is a root that roots no tree of the kind.
-const NO_ROOTS: [(u32, bool); 4] = [(0, true), (22, true), (2, false), (13, true)];
+// Out of range, and a chain's page.
+const NO_ROOTS: [u32; 3] = [0, 22, 10];
 
 #[test]
 fn no_roots(rt: HostRuntime) -> Result<(), Fail> {
-    for (root, table) in NO_ROOTS {
+    for root in NO_ROOTS {
         let mut pages = Laid::new();
         assert_eq!(rt;
-            drops(rt.alloc(), &mut pages, table, root),
+            drops(rt.alloc(), &mut pages, root),
             Err(FetchFault::Corrupt { page: root })
         );
         assert_eq!(rt; pages.given, 0);
