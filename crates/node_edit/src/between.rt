@@ -38,7 +38,13 @@ fn body_of<'a>(text: &'a [u8], kind: Kind) -> &'a [u8]
 
 /// The key of a cell of a page other than a leaf of a table: what stands behind the left child of a cell of the page above that says the same. The error is
 /// want of memory.
-pub fn key_at(alloc: Global, bytes: &[u8], u: usize, first: bool, k: usize) -> Result<Bytes, AllocError>
+pub fn key_at(
+    alloc: Global,
+    bytes: &[u8],
+    u: usize,
+    first: bool,
+    k: usize,
+) -> Result<Bytes, AllocError>
     requires shown { (node : Node) × (node_of u first bytes.now ≡ Some node) × (k < length node.cells) × (is_leaf node.kind && is_table node.kind ≡ false) }
     ensures key { IfOk result (λ key. (node : Node) → node_of u first bytes.now ≡ Some node → IsUpKey node.kind u (cell_at node k) key) }
 {

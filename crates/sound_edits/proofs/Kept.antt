@@ -127,21 +127,26 @@ module _ {P : Type 0} (pages : Ghosts P) (lists : PageLists) (own own_then : Lis
       let rooted : AreRooted u (pages.last_page new) shown_new (front ++ root ∷ back) (split.before ++ (own_then ++ split.behind)) =
       rooted_both u (pages.last_page new) shown_new front (root ∷ back) split.before (own_then ++ split.behind)
       (rooted_local u (pages.last_page old) (pages.last_page new) shown_old shown_new front split.before is.last
-      (λ n there. alike n (omega (arith, there, times-append t.first (split.before ++ split.behind) n, times-append split.before split.behind n))) split.front_are)
-      (
+      (λ n there. alike n (omega (arith, there, times-append t.first (split.before ++ split.behind) n, times-append split.before split.behind n))) split.front_are) (
         own_then,
         split.behind,
         refl,
         rooted_then root table height_then items_then split.root_is.least (omega (arith, split.root_is.most, is.last)) now,
         rooted_local u (pages.last_page old) (pages.last_page new) shown_old shown_new back split.behind is.last
-        (λ n there. alike n (omega (arith, there, times-append t.first (split.before ++ split.behind) n, times-append split.before split.behind n))) split.back_are,
+            (λ n there. alike n (omega (arith, there, times-append t.first (split.before ++ split.behind) n, times-append split.before split.behind n))) split.back_are,
       ) in
       let schema = tree_local true u (pages.last_page old) (pages.last_page new) shown_old shown_new t.height 1 t.first rows is.last
-      (λ n there. alike n (omega (arith, there, times-append t.first (split.before ++ split.behind) n))) t.schema in
-      (
+      (λ n there. alike n (omega (arith, there, times-append t.first (split.before ++ split.behind) n))) t.schema in (
         used_then,
         trees_then (front ++ root ∷ back) used_then rows s.some now.neat in_use (record {
-          height = t.height; low = t.low; first = t.first; others = split.before ++ (own_then ++ split.behind); schema = schema; rooted = rooted; used_is = refl }),
+          height = t.height;
+          low = t.low;
+          first = t.first;
+          others = split.before ++ (own_then ++ split.behind);
+          schema = schema;
+          rooted = rooted;
+          used_is = refl;
+        }),
         λ n. omega (arith, sum n, three t.first split.before own_then split.behind n),
       )
 
@@ -160,8 +165,7 @@ module _ {P : Type 0} (pages : Ghosts P) (lists : PageLists) (own own_then : Lis
       let are = others_of pages old world roots used own t.others rows s sum in
       let alike = others_alike pages lists own own_then old new world is t.others are in
       let in_use = in_use_then pages lists own own_then old new world is t.others used_then are now.used (λ n. omega (arith, sum n, s.trees.once n)) sum_then in
-      let most : 1 ≤ pages.last_page new = omega (arith, s.some, is.last) in
-      (
+      let most : 1 ≤ pages.last_page new = omega (arith, s.some, is.last) in (
         used_then,
         trees_then roots used_then items_then s.some now.neat in_use (record {
           height = height_then;
@@ -201,10 +205,16 @@ root_dropped pages lists own old new world is front root back used rows table he
     (rooted_local u (pages.last_page old) (pages.last_page new) shown_old shown_new back split.behind is.last
     (λ n there. alike n (omega (arith, there, times-append t.first (split.before ++ split.behind) n, times-append split.before split.behind n))) split.back_are) in
     let schema = tree_local true u (pages.last_page old) (pages.last_page new) shown_old shown_new t.height 1 t.first rows is.last
-    (λ n there. alike n (omega (arith, there, times-append t.first (split.before ++ split.behind) n))) t.schema in
-    (
+    (λ n there. alike n (omega (arith, there, times-append t.first (split.before ++ split.behind) n))) t.schema in (
       others,
       trees_then pages lists own [] old new world is (front ++ back) others rows s.some is.edits.neat in_use (record {
-        height = t.height; low = t.low; first = t.first; others = split.before ++ split.behind; schema = schema; rooted = rooted; used_is = refl }),
+        height = t.height;
+        low = t.low;
+        first = t.first;
+        others = split.before ++ split.behind;
+        schema = schema;
+        rooted = rooted;
+        used_is = refl;
+      }),
       λ n. omega (arith, sum n),
     )

@@ -1,2 +1,4 @@
 pub mod Others
 pub mod Kept
+pub mod Inserted
+pub mod Dropped

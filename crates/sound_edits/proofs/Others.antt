@@ -82,8 +82,7 @@ pub others_of : {P : Type 0} (pages : Ghosts P) (at : P) (world : View) (roots u
     → ((n : ℕ) → times used n ≡ times others n + times own n) → AreOthers pages at world own others
 others_of pages at world roots used own others rows s sum n there =
     let found = s.in_use n (omega (arith, sum n, there)) in
-    let (rest, used_is, range) = used_range (pages.usable at) (pages.last_page at) (shown_over pages at world) roots used rows s.trees.trees in
-    (
+    let (rest, used_is, range) = used_range (pages.usable at) (pages.last_page at) (shown_over pages at world) roots used rows s.trees.trees in (
       least (pages.last_page at) rest n (subst (λ (l : List ℕ). 1 ≤ times l n) used_is (omega (arith, sum n, there))) range,
       found.1,
       omega (arith, sum n, there, found.0),
