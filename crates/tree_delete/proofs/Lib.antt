@@ -1,0 +1,14 @@
+pub mod Found
+pub mod Own
+pub mod InLeaf
+pub mod Replaced
+pub mod Upward
+pub mod Ways
+pub mod Passing
+pub mod Rejoining
+pub mod Pairs
+pub mod Thinned
+pub mod Sides
+pub mod Entries
+pub mod Afterwards
+pub mod Descending

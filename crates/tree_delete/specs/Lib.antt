@@ -1,0 +1,5 @@
+pub mod Stubs
+pub mod Paths
+pub mod Deleting
+pub mod Below
+pub mod Rooting
