@@ -1,5 +1,0 @@
-pub mod Stubs
-pub mod Paths
-pub mod Deleting
-pub mod Below
-pub mod Rooting
